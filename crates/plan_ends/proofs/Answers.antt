@@ -1,5 +1,5 @@
 -- The end of a run of a plan's graph, by its nodes and its collector.
-use Rattle.plan_ends.proofs.Prelude.{List, Some, [], ap, arith, get_or, inl, inr, is_some, length, length-append, map, refl, subst, suc, sym, true, zero, ℕ, ◌++◌, ◌+◌, ◌<◌, ◌∙◌, ◌∷◌, ◌≡◌, ◌≤◌, ◌⊎◌, AllByRecursion, AllFitDraft, AllPull, AllTyped, ArePortsOf, BoxPicture, Draft, DraftNode, EachGivesIf, Files, GivesIf, HasRun, IsGraphOf, IsSmall, KeepsCollect, KeepsRows, Lists, NodeForm, NodePort, PartSpec, PlanGraph, Pulls, SelectPlan, Spec, Stream, Wire, all_rows, body_nodes, box_at, collect_node, collector, consumer_of, each-same, each-typed, few-inputs, few-outputs, fits, forms, get_or-map, get_or_at, get_or_default, graphs-same, input_count, length-map, map-append, no_draft, node_form, output-below-count, output_count, part_spec, plan-fits, plan-graph, plan_nodes, ports_of, producer_of, ranks-count, rows_of, spec_form, unboxed, wire_at, with_nodes, BoxGives, HasEnded, HasListed, HasPulled, IsKept, IsListedNode, IsOrdinary, IsReady, IsUngrown, in_stream, out_stream, parts_of, pulled_at, pushed_at, reading_in}
+use Rattle.plan_ends.proofs.Imports.{List, Some, [], ap, arith, get_or, inl, inr, is_some, length, length-append, map, refl, subst, suc, sym, true, zero, ℕ, ◌++◌, ◌+◌, ◌<◌, ◌∙◌, ◌∷◌, ◌≡◌, ◌≤◌, ◌⊎◌, AllByRecursion, AllFitDraft, AllPull, AllTyped, ArePortsOf, BoxPicture, Draft, DraftNode, EachGivesIf, Files, GivesIf, HasRun, IsDraftGraph, IsSmall, KeepsCollect, KeepsRows, Lists, NodeForm, NodePort, PartSpec, IsPlanGraph, Pulls, SelectPlan, Spec, Stream, Wire, rows_together, body_nodes, box_at, collect_node, collector, consumer_of, each-same, each-typed, few-inputs, few-outputs, fits, forms, get_or-map, get_or_at, get_or_default, graphs-same, input_count, length-map, map-append, no_draft, node_form, output-below-count, output_count, part_spec, plan-fits, plan-graph, plan_nodes, ports_of, producer_of, ranks-count, stream_rows, spec_form, unboxed, wire_at, with_nodes, BoxGives, HasEnded, HasListed, HasPulled, KeepsContract, IsListedNode, IsOrdinary, IsReady, IsUngrown, in_stream, out_stream, sources_of_files, stream_pulled_at, stream_pushed_at, reading_in}
 use Rattle.query_model.specs.declared.processor_spec.Spec.TheVariants as spec
 use Rattle.plan_ends.proofs.GrownLists.{at-recursion}
 use Rattle.plan_ends.proofs.Pulled.{kept-counted}
@@ -21,7 +21,8 @@ each-gives : (files : Files) (boxes : List BoxPicture) (pulled pushed : ℕ → 
     → ((k : ℕ) (z : DraftNode) → k < length nodes → get_or nodes k z ≡ z
     → BoxGives z.spec files z.takes z.gives (n + k) (box_at boxes (n + k)) (pulled (n + k))
     (pushed (n + k)))
-    → EachGivesIf (parts_of files) n nodes (pulled_at boxes pulled) (pushed_at boxes pushed)
+    → EachGivesIf (sources_of_files files) n nodes (stream_pulled_at boxes pulled)
+    (stream_pushed_at boxes pushed)
 each-gives files boxes pulled pushed n [] gives = tt
 each-gives files boxes pulled pushed n (node ∷ nodes) gives =
     let here : n + 0 ≡ n = omega arith in
@@ -49,7 +50,10 @@ collect-spec s e = grind arith
 
 -- a node of a kind that doesn't grow is an ordinary one
 ordinary : (z : DraftNode) → IsReady z → IsUngrown z.spec → IsOrdinary z
-ordinary z x1 u = grind arith
+ordinary z ready u = elim ready [
+  | inl k ↦ k
+  | inr k ↦ absurd (subst IsUngrown k.is u)
+]
 
 -- A collector has all of its input, and it gathered that.
 pub record HasCollected (p : BoxPicture) (ins : Lists) : Type 0 where
@@ -66,7 +70,7 @@ module _ (files : Files) (nodes : List DraftNode) (boxes : List BoxPicture)
   abbrev wires : List Wire
   wires = plan_wires ++ h.more
 
-  module _ (g : IsGraphOf nodes) (ready : AllByRecursion IsReady nodes) where
+  module _ (g : IsDraftGraph nodes) (ready : AllByRecursion IsReady nodes) where
     abbrev node_at : ℕ → DraftNode → Type 0
     node_at k z = (k < length nodes) × (get_or nodes k z ≡ z)
 
@@ -85,7 +89,7 @@ module _ (files : Files) (nodes : List DraftNode) (boxes : List BoxPicture)
     box-kept : (k : ℕ) (s : Spec) → k < length boxes → (box_at boxes k).spec ≡ Some s
         → ArePortsOf (Some s) (box_at boxes k).growth (input_count wires k) (output_count wires k)
         → input_count wires k ≤ 32 → output_count wires k ≤ 16
-        → IsKept s files (input_count wires k) (output_count wires k) (box_at boxes k)
+        → KeepsContract s files (input_count wires k) (output_count wires k) (box_at boxes k)
         (h.done.pulled k) (h.done.pushed k)
     box-kept k s lt loaded ports few_inputs few_outputs =
         let d = h.done.each k lt (ap is_some loaded) (h.lawful k lt) in
@@ -104,7 +108,8 @@ module _ (files : Files) (nodes : List DraftNode) (boxes : List BoxPicture)
 
     -- the box of an ordinary node keeps its contract of the node's lists
     node-kept : (k : ℕ) (z : DraftNode) → node_at k z → IsOrdinary z
-        → IsKept z.spec files z.takes z.gives (box_at boxes k) (h.done.pulled k) (h.done.pushed k)
+        → KeepsContract z.spec files z.takes z.gives (box_at boxes k) (h.done.pulled k)
+        (h.done.pushed k)
     node-kept k z at o =
         let takes : input_count wires k ≡ z.takes =
         h.grown.inputs k z at.0 at.1 o.ungrown ∙ takes-at k z at in
@@ -113,10 +118,10 @@ module _ (files : Files) (nodes : List DraftNode) (boxes : List BoxPicture)
         let few_inputs = few-inputs ranks plan_wires [] g.graph.so_far k in
         let few_outputs = few-outputs ranks plan_wires [] g.graph.so_far k in
         let same = h.grown.outputs k at.0 in
-        subst (λ m. IsKept z.spec files m z.gives (box_at boxes k) (h.done.pulled k)
+        subst (λ m. KeepsContract z.spec files m z.gives (box_at boxes k) (h.done.pulled k)
         (h.done.pushed k)) takes
-        (subst (λ m. IsKept z.spec files (input_count wires k) m (box_at boxes k) (h.done.pulled k)
-        (h.done.pushed k)) gives
+        (subst (λ m. KeepsContract z.spec files (input_count wires k) m (box_at boxes k)
+        (h.done.pulled k) (h.done.pushed k)) gives
         (box-kept k z.spec (omega (arith, at.0, h.count)) (h.specs k z at.0 at.1)
         (rw (takes, gives) (o.ports (box_at boxes k).growth))
         (omega (arith, few_inputs, takes-at k z at, takes)) (omega (arith, few_outputs, same))))
@@ -128,9 +133,9 @@ module _ (files : Files) (nodes : List DraftNode) (boxes : List BoxPicture)
         path
     listed-fed list n i path lt b =
         let part : PartSpec = part_spec (reading_in list) (suc i) path in
-        let kept = subst (λ m. IsKept (spec.Csv part) files m 1 (box_at boxes b.node)
+        let kept = subst (λ m. KeepsContract (spec.Csv part) files m 1 (box_at boxes b.node)
         (h.done.pulled b.node) (h.done.pushed b.node)) b.inputs
-        (subst (λ m. IsKept (spec.Csv part) files (input_count wires b.node) m
+        (subst (λ m. KeepsContract (spec.Csv part) files (input_count wires b.node) m
         (box_at boxes b.node) (h.done.pulled b.node) (h.done.pushed b.node)) b.outputs
         (box-kept b.node (spec.Csv part) b.in_range b.loaded (b.inputs, b.outputs)
         (omega (arith, b.inputs)) (omega (arith, b.outputs)))) in
@@ -140,8 +145,8 @@ module _ (files : Files) (nodes : List DraftNode) (boxes : List BoxPicture)
           pushed = out_stream (box_at boxes b.node) (h.done.pushed b.node) 0;
           gives = gives.gives tt;
           typed = (gives.typed tt).0;
-          pulls = subst (λ (w : Wire). Pulls (pulled_at boxes h.done.pulled (consumer_of w))
-              (pushed_at boxes h.done.pushed (producer_of w))) b.wire
+          pulls = subst (λ (w : Wire). Pulls (stream_pulled_at boxes h.done.pulled (consumer_of w))
+              (stream_pushed_at boxes h.done.pushed (producer_of w))) b.wire
               (wire-pulls wires boxes h.done b.edge b.edge_in_range
               (subst (IsWireOf wires boxes) (sym b.wire) (record {
                 from_in_range = b.in_range;
@@ -154,7 +159,7 @@ module _ (files : Files) (nodes : List DraftNode) (boxes : List BoxPicture)
 
     list-kept : (k : ℕ) (list : PartSpec) → k < length nodes
         → (box_at boxes k).spec ≡ Some (spec.List list) → output_count wires k ≡ 1
-        → GivesIf (parts_of files) (spec.List list) []
+        → GivesIf (sources_of_files files) (spec.List list) []
         (out_stream (box_at boxes k) (h.done.pushed k) 0 ∷ [])
     list-kept k list lt loaded one = go (h.grown.lists k list lt loaded)
       where
@@ -164,18 +169,18 @@ module _ (files : Files) (nodes : List DraftNode) (boxes : List BoxPicture)
         gives : input_count wires k ≤ 32
             → (input_count wires k ≡ 0) ⊎ IsGrownList list files (input_count wires k)
             (box_at boxes k) (h.done.pulled k)
-            → GivesIf (parts_of files) (spec.List list) []
+            → GivesIf (sources_of_files files) (spec.List list) []
             (out_stream (box_at boxes k) (h.done.pushed k) 0 ∷ [])
         gives few grown =
             list-gives list files (input_count wires k) k (box_at boxes k) (h.done.pulled k)
             (h.done.pushed k)
-            (subst (λ m. IsKept (spec.List list) files (input_count wires k) m (box_at boxes k)
-            (h.done.pulled k) (h.done.pushed k)) one
+            (subst (λ m. KeepsContract (spec.List list) files (input_count wires k) m
+            (box_at boxes k) (h.done.pulled k) (h.done.pushed k)) one
             (box-kept k (spec.List list) in_boxes loaded (h.grown.list_ports k list lt loaded)
             few (omega (arith, one)))) grown
 
         go : (input_count wires k ≡ 0) ⊎ HasListed list files wires boxes k
-            → GivesIf (parts_of files) (spec.List list) []
+            → GivesIf (sources_of_files files) (spec.List list) []
             (out_stream (box_at boxes k) (h.done.pushed k) 0 ∷ [])
         go (inl none) = gives (omega (arith, none)) (inl none)
         go (inr w) =
@@ -210,9 +215,9 @@ module _ (files : Files) (nodes : List DraftNode) (boxes : List BoxPicture)
             (gives-at k z at ∙ l.gives))))
 
     -- the nodes' promises and the fronts along the wires
-    ended-run : EachGivesIf (parts_of files) 0 nodes (pulled_at boxes h.done.pulled)
-        (pushed_at boxes h.done.pushed) × AllPull (pulled_at boxes h.done.pulled)
-        (pushed_at boxes h.done.pushed) plan_wires
+    ended-run : EachGivesIf (sources_of_files files) 0 nodes (stream_pulled_at boxes h.done.pulled)
+        (stream_pushed_at boxes h.done.pushed) × AllPull (stream_pulled_at boxes h.done.pulled)
+        (stream_pushed_at boxes h.done.pushed) plan_wires
     ended-run =
         let d : Draft = with_nodes nodes no_draft in
         let ranks : length d.ranks ≡ length nodes = ranks-count nodes no_draft ∙ omega arith in (
@@ -277,15 +282,16 @@ module _ (files : Files) (nodes : List DraftNode) (boxes : List BoxPicture)
 -- has all of its input.
 pub record ListRun (files : Files) (steps nodes : List DraftNode) (boxes : List BoxPicture)
     (h : HasEnded files nodes boxes) (last : ℕ) : Type 0 where
-  pub run : HasRun (parts_of files) steps (pulled_at boxes h.done.pulled)
-      (pushed_at boxes h.done.pushed)
+  pub run : HasRun (sources_of_files files) steps (stream_pulled_at boxes h.done.pulled)
+      (stream_pushed_at boxes h.done.pushed)
   pub collected : HasCollected (box_at boxes last) (h.done.pulled last)
   pub counted : (n : ℕ) (z : DraftNode) → n < length nodes → get_or nodes n z ≡ z
       → IsUngrown z.spec → HasPulled (box_at boxes n)
-      (length (all_rows (rows_of (map (pulled_at boxes h.done.pulled) (ports_of n 0 z.takes)))))
+      (length (rows_together
+      (stream_rows (map (stream_pulled_at boxes h.done.pulled) (ports_of n 0 z.takes)))))
 
 pub list-run : (files : Files) (body : List DraftNode) (rank : ℕ) (nodes : List DraftNode)
-    (boxes : List BoxPicture) (h : HasEnded files nodes boxes) (last : ℕ) → IsGraphOf nodes
+    (boxes : List BoxPicture) (h : HasEnded files nodes boxes) (last : ℕ) → IsDraftGraph nodes
     → AllFitDraft (body ++ collector rank ∷ []) no_draft
     → forms nodes ≡ forms (body ++ collector rank ∷ [])
     → AllTyped (body ++ collector rank ∷ []) []
@@ -294,13 +300,13 @@ pub list-run : (files : Files) (body : List DraftNode) (rank : ℕ) (nodes : Lis
 list-run files body rank nodes boxes h last g fit e typed ready count =
     let steps : List DraftNode = body ++ collector rank ∷ [] in
     let run = ended-run files nodes boxes h g ready in
-    let pulled : NodePort → Stream = pulled_at boxes h.done.pulled in
-    let pushed : NodePort → Stream = pushed_at boxes h.done.pushed in
+    let pulled : NodePort → Stream = stream_pulled_at boxes h.done.pulled in
+    let pushed : NodePort → Stream = stream_pushed_at boxes h.done.pushed in
     let along : AllPull pulled pushed (with_nodes steps no_draft).wires =
     subst (λ (d : Draft). AllPull pulled pushed d.wires) (graphs-same nodes steps no_draft e)
     run.1 in
-    let each = each-typed (parts_of files) pulled pushed steps no_draft [] fit tt typed
-    (each-same (parts_of files) pulled pushed 0 nodes steps e run.0) along in
+    let each = each-typed (sources_of_files files) pulled pushed steps no_draft [] fit tt typed
+    (each-same (sources_of_files files) pulled pushed 0 nodes steps e run.0) along in
     record {
       run = record { each = each; along = along };
       collected = collected files nodes boxes h g ready body rank last e count;
@@ -323,6 +329,6 @@ pub plan-run : (files : Files) (p : SelectPlan) (nodes : List DraftNode) (boxes 
     → AllByRecursion IsReady nodes → length (plan_nodes p) ≡ last + 1
     → PlanRun files p nodes boxes h last
 plan-run files p nodes boxes h last small e typed ready count =
-    let g : PlanGraph nodes = plan-graph p nodes small e in
+    let g : IsPlanGraph nodes = plan-graph p nodes small e in
     list-run files (body_nodes p) 14 nodes boxes h last g.graph
     (fits (plan_nodes p) (plan-fits p small).0).fit e typed ready count

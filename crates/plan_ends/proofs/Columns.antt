@@ -1,6 +1,6 @@
 -- The columns of a table that a query names are those of the table that its plan reads, and its
 -- checked types are those of the rows that its items make.
-use Rattle.plan_ends.proofs.Prelude.{Bool, IfSome, List, None, Option, Some, [], ap, append_assoc, ap₂, arith, bytes_eq, cond, false, filter, flat_map, length, length-append, map, not, option_map, refl, slice_index_or, subst, suc, sym, true, ℕ, ◌++◌, ◌+◌, ◌<◌, ◌==◌, ◌∙◌, ◌∷◌, ◌≡◌, AggCall, All, All-behind, All-cons, All-front, All-head, All-nil, All-tail, AreColumnsFrom, AreKeyPairs, ArePlainItems, BothOrNone, Checked, CheckedJoin, ColumnDecl, ColumnRef, ColumnType, EachWith, Expr, FromColumn, Grouped, Grouping, IsAnalysable, IsChecked, IsCheckedJoin, IsGrouping, IsOfKind, IsPlacedItem, IsShape, IsTypedQuery, Item, ItemKind, Items, Join, KeyPair, Listed, NamePair, OrderKey, Plain, Query, Schema, Shape, SortKey, Star, TableDecl, TableRef, TableUse, accepted, all_fit, append-nil, are_keys, call_type, calls_of, column_is_of_kind, every_column, expr_is_of_kind, first_name, from_columns, from_types, get_or_at, group_row_types, is_grouped, is_join_pair, is_key_of, is_typed, item_kind, item_names, join_spec, join_tables, key_place, known_type, length-map, list_all, listed, map-append, means, meant_type, none_found, operands_of, output_names, output_types, pair_of, place_in, place_of, refusal_of, same_type, sort_key, source_types, star_name, table_columns, tells_each, type_of, types_of, ungrouped_names, use_of, used_types, join_columns, pairs_fit, and_parts}
+use Rattle.plan_ends.proofs.Imports.{Bool, IfSome, List, None, Option, Some, [], ap, append_assoc, ap₂, arith, bytes_eq, cond, false, filter, flat_map, length, length-append, map, not, option_map, refl, slice_index_or, subst, suc, sym, true, ℕ, ◌++◌, ◌+◌, ◌<◌, ◌==◌, ◌∙◌, ◌∷◌, ◌≡◌, AggCall, All, All-behind, All-cons, All-front, All-head, All-nil, All-tail, AreColumnsFrom, AreKeyPairs, ArePlainItems, BothOrNone, Checked, CheckedJoin, ColumnDecl, ColumnRef, ColumnType, EachWith, Expr, FromColumn, Grouped, Grouping, IsAnalysable, IsChecked, IsCheckedJoin, IsGrouping, IsOfKind, IsPlacedItem, IsShape, IsTypedQuery, Item, ItemKind, Items, Join, KeyPair, Listed, NamePair, OrderKey, Plain, Query, Schema, Shape, SortKey, Star, TableDecl, TableRef, TableUse, unrefused_is_accepted, all_fit, append-nil, are_keys, call_type, calls_of, column_is_of_kind, every_column, expr_is_of_kind, first_name, from_columns, from_types, get_or_at, group_row_types, is_grouped, is_join_pair, is_key_of, is_typed, item_typing, item_names, join_spec, join_tables, key_place, known_type, length-map, list_all, listed, map-append, means, meant_type, none_found, operands_of, output_names, output_types, pair_of, place_in, place_of, refusal_of, same_type, sort_key, source_types, star_name, table_columns, tells_each, type_of, types_of, ungrouped_names, use_of, used_types, join_columns, pairs_fit, and_parts}
 use Rattle.chunk_data.specs.declared.typed_value.ColumnType.TheVariants as column
 use Rattle.query_model.specs.declared.query.ExprOf.TheVariants as expr
 use Rattle.query_model.specs.declared.query.ItemKind.TheVariants as kind
@@ -44,25 +44,25 @@ columns-types k done columns es e h = grind arith
 
 items-types : (columns : List FromColumn) (items : List Item) (es : List Expr)
     → EachWith (IsPlacedItem (place_in columns)) items es
-    → list_all (λ (i : Item). is_typed (item_kind columns i.what)) items ≡ true
-    → map (λ (i : Item). known_type (item_kind columns i.what)) items
+    → list_all (λ (i : Item). is_typed (item_typing columns i.what)) items ≡ true
+    → map (λ (i : Item). known_type (item_typing columns i.what)) items
     ≡ map (λ e. type_of e (types_of columns)) es
 items-types columns (i ∷ items) (e ∷ es) is h =
-    let each = and_parts (is_typed (item_kind columns i.what))
-    (list_all (λ (i : Item). is_typed (item_kind columns i.what)) items) h in
+    let each = and_parts (is_typed (item_typing columns i.what))
+    (list_all (λ (i : Item). is_typed (item_typing columns i.what)) items) h in
     ap₂ (λ t ts. t ∷ ts) (one i.what i.alias is.0 each.0) (items-types columns items es is.1 each.1)
   where
     one : (k : ItemKind) (alias : Option (List ℕ))
         → IsPlacedItem (place_in columns) (record { what = k; alias = alias }) e
-        → is_typed (item_kind columns k) ≡ true
-        → known_type (item_kind columns k) ≡ type_of e (types_of columns)
+        → is_typed (item_typing columns k) ≡ true
+        → known_type (item_typing columns k) ≡ type_of e (types_of columns)
     one (kind.Plain a) alias is t = search (arith, known-is, expr_is_of_kind, every_column)
     one (kind.Agg call) alias is t = absurd is
 items-types columns items es is h = grind arith
 
 output-types : (columns : List FromColumn) (items : Items) (es : List Expr)
     → ArePlainItems (place_in columns) columns items es
-    → list_all (λ (i : Item). is_typed (item_kind columns i.what)) (listed items) ≡ true
+    → list_all (λ (i : Item). is_typed (item_typing columns i.what)) (listed items) ≡ true
     → output_types items columns ≡ map (λ e. type_of e (types_of columns)) es
 output-types columns Star es is h = columns-types 0 [] columns es refl is
 output-types columns (Listed items) es is h = items-types columns items es is h
@@ -185,7 +185,7 @@ module _ (q : Query) (schemas : List Schema) (c : Checked) (none : refusal_of q 
       → output_types q.items columns
       ≡ map (type_at (group_row_types g (from_types q schemas))) g.picks
   picked-types can e g group =
-      let ok = accepted q schemas none in
+      let ok = unrefused_is_accepted q schemas none in
       let P : ColumnRef → Type 0 = MeansOne columns in
       let ones = All-front P _ _ (tells_each q schemas ok) in
       let types : List ColumnType = types_of columns in
@@ -208,7 +208,7 @@ module _ (q : Query) (schemas : List Schema) (c : Checked) (none : refusal_of q 
       no-star : (items : Items) (keys tested : List (List ℕ))
           → option_map refuse.NotGrouped (first_name (star_name items ++ keys ++ tested)) ≡ None
           → output_types items columns
-          ≡ map (λ (i : Item). known_type (item_kind columns i.what)) (listed items)
+          ≡ map (λ (i : Item). known_type (item_typing columns i.what)) (listed items)
       no-star Star keys tested h = absurd cc
       no-star (Listed items) keys tested h = refl
 
@@ -217,7 +217,7 @@ module _ (q : Query) (schemas : List Schema) (c : Checked) (none : refusal_of q 
       → IsTypedQuery (from_types q schemas) c → IsTypedSelect tables c
   typed-select tables are can query =
       let t = read-types q schemas tables are c.from is.from q.join c.join is.join in
-      let ok = accepted q schemas none in
+      let ok = unrefused_is_accepted q schemas none in
       record {
         typed = subst (λ types. IsTypedQuery types c) t.types query;
         made = grind (arith, made, shape_types);
@@ -234,7 +234,7 @@ module _ (q : Query) (schemas : List Schema) (c : Checked) (none : refusal_of q 
           → output_types q.items columns ≡ shape_types s (from_types q schemas)
       made false e (Plain items) shape =
           output-types columns q.items items shape
-          (all_fit q schemas (accepted q schemas none)).items
+          (all_fit q schemas (unrefused_is_accepted q schemas none)).items
       made false e (Grouped g) shape = absurd shape
       made true e (Plain items) shape = absurd shape
       made true e (Grouped g) shape = picked-types can e g shape

@@ -1,5 +1,5 @@
 -- The rows that the nodes of each kind pulled in a run of a query's plan are the kind's flow.
-use Rattle.plan_ends.proofs.Prelude.{Checked, ColumnType, Cond, Database, DraftNode, Grouped, HasCalls, IsPlanOf, IsTold, Kind, NodeForm, NodePort, Parts, Plain, Row, SelectPlan, Shape, SortKey, SortSpec, Stream, all_rows, body_nodes, by-forms, collect_node, counted, filter_pulls, filtered_rows, flow, forms, gather_pulls, groups-selected, groups_tested, if_grouped, if_ordered, if_plain, join_pulls, kind-same, kind_of, length-map, none-of, of_kind, order_of, plan_nodes, plan_pulls, ports_of, pulled_rows, rows_joined, rows_of, rows_tested, same_kind, selected_rows, shape_of, shape_pulls, sort_pulls, source_rows, source_table, sum_by-append, sum_by-cons, used_table, Bool, IfSome, List, None, Option, [], ap, ap₂, arith, cond, false, length, length-append, map, refl, suc, sym, true, ℕ, ◌++◌, ◌+◌, ◌∙◌, ◌∷◌, ◌≡◌}
+use Rattle.plan_ends.proofs.Imports.{Checked, ColumnType, Cond, Database, DraftNode, Grouped, HasCalls, IsPlanOf, IsTold, Kind, NodeForm, NodePort, RowsOfSources, Plain, Row, SelectPlan, Shape, SortKey, SortSpec, Stream, rows_together, body_nodes, by-forms, collect_node, count_over, filter_pulls, filtered_rows, flow, forms, gather_pulls, groups-selected, groups_tested, if_grouped, if_ordered, if_plain, join_pulls, kind-same, kind_of, length-map, none-of, of_kind, order_of, plan_nodes, plan_pulls, ports_of, pulled_rows, rows_joined, stream_rows, rows_tested, same_kind, selected_rows, shape_of, shape_pulls, sort_pulls, source_rows, source_table, sum_by-append, sum_by-cons, used_table, Bool, IfSome, List, None, Option, [], ap, ap₂, arith, cond, false, length, length-append, map, refl, suc, sym, true, ℕ, ◌++◌, ◌+◌, ◌∙◌, ◌∷◌, ◌≡◌}
 use Rattle.query_model.specs.declared.processor_spec.Kind.TheVariants as kind
 use Rattle.query_model.specs.declared.processor_spec.Spec.TheVariants as spec
 
@@ -17,21 +17,22 @@ module _ (k : Kind) (f : NodePort → Stream) where
   pulled-same n xs ys e =
       by-forms (λ xs ys. (n : ℕ) → pulled_rows k n xs f ≡ pulled_rows k n ys f) (λ n. refl)
       (λ x y xs ys same rest n. ap₂ (λ a b. a + b)
-      (ap₂ (λ j m. cond (same_kind j k) (length (all_rows (rows_of (map f (ports_of n 0 m))))) 0)
+      (ap₂ (λ j m. cond (same_kind j k)
+      (length (rows_together (stream_rows (map f (ports_of n 0 m))))) 0)
       (kind-same x.spec y.spec (ap (λ (z : NodeForm). z.spec) same))
       (ap (λ (z : NodeForm). z.takes) same)) (rest (suc n))) xs ys e n
 
   -- nothing is pulled where there is no node of the kind
-  none-pulled : (n : ℕ) (nodes : List DraftNode) → counted (of_kind k) nodes ≡ 0
+  none-pulled : (n : ℕ) (nodes : List DraftNode) → count_over (of_kind k) nodes ≡ 0
       → pulled_rows k n nodes f ≡ 0
   none-pulled n [] none = refl
   none-pulled n (x ∷ xs) none =
       let split = sum_by-cons (λ (z : DraftNode). of_kind k z.spec z.takes) x xs in
       go (same_kind (kind_of x.spec) k) (sym split ∙ none) (λ e. none-pulled (suc n) xs e)
     where
-      go : (b : Bool) → cond b 1 0 + counted (of_kind k) xs ≡ 0
-          → (counted (of_kind k) xs ≡ 0 → pulled_rows k (suc n) xs f ≡ 0)
-          → cond b (length (all_rows (rows_of (map f (ports_of n 0 x.takes))))) 0
+      go : (b : Bool) → cond b 1 0 + count_over (of_kind k) xs ≡ 0
+          → (count_over (of_kind k) xs ≡ 0 → pulled_rows k (suc n) xs f ≡ 0)
+          → cond b (length (rows_together (stream_rows (map f (ports_of n 0 x.takes))))) 0
           + pulled_rows k (suc n) xs f ≡ 0
       go true e rest = absurd (omega (arith, e))
       go false e rest = let none = rest (omega (arith, e)) in omega (arith, none)
@@ -83,15 +84,15 @@ module _ (k : Kind) (types made : List ColumnType) (n chunk_rows : ℕ) (keys : 
 -- ---- plans
 
 -- a run of the plan: the rows that its nodes pulled, and those that were collected
-pub record HasFlowed (p : SelectPlan) (parts : Parts) (nodes : List DraftNode)
+pub record HasFlowed (p : SelectPlan) (parts : RowsOfSources) (nodes : List DraftNode)
     (f : NodePort → Stream) (last : ℕ) : Type 0 where
   pub same : forms nodes ≡ forms (plan_nodes p)
   pub count : length (plan_nodes p) ≡ last + 1
-  pub one_collector : counted (of_kind kind.Collect) (plan_nodes p) ≡ 1
+  pub one_collector : count_over (of_kind kind.Collect) (plan_nodes p) ≡ 1
   pub pulled : (k : Kind) → p.limit ≡ None → IsTold k
       → pulled_rows k 0 (body_nodes p) f ≡ plan_pulls k parts p
 
-module _ (p : SelectPlan) (parts : Parts) (nodes : List DraftNode) (f : NodePort → Stream)
+module _ (p : SelectPlan) (parts : RowsOfSources) (nodes : List DraftNode) (f : NodePort → Stream)
     (last : ℕ) (h : HasFlowed p parts nodes f last) where
   abbrev rows : List Row
   rows = (f (record { node = last; port = 0 })).rows

@@ -1,5 +1,5 @@
 -- What a partial aggregate and a merge of groups keep is what they give.
-use Rattle.plan_ends.proofs.Prelude.{arith, IsPermutation, List, refl, sym, ◌++◌, ◌∙◌, ◌≡◌, GroupSpec, IsPermutation-refl, KeepsMade, Row, Spec, all_done, all_rows, chunk_rows, first_rows, merged_rows, partial_rows, partial_types, rows_of, KindGives, in_stream}
+use Rattle.plan_ends.proofs.Imports.{arith, IsPermutation, List, refl, sym, ◌++◌, ◌∙◌, ◌≡◌, GroupSpec, IsPermutation-refl, KeepsMade, Row, Spec, all_done, rows_together, chunk_rows, first_rows, merged_rows, partial_rows, partial_types, stream_rows, KindGives, in_stream}
 use Rattle.query_model.specs.declared.processor_spec.Spec.TheVariants as spec
 use Rattle.plan_ends.proofs.KindLaws.{at-ports, kept-rows, one-fits, one-output}
 use Rattle.plan_ends.proofs.ResizeLaws.{all-done, all-ports, at_ports}
@@ -30,16 +30,16 @@ merged-gives g files takes gives n p ins outs k =
     let s : Spec = spec.MergeAggregate g in
     let m : KeepsMade s p ins outs =
     kept-rows h (all-fit-at s p ins n takes h.nothing_past fit) in
-    let lists : List (List Row) = rows_of (at_ports (in_stream p ins) n 0 takes) in
-    let rows : all_rows lists ≡ first_rows 32 ins =
+    let lists : List (List Row) = stream_rows (at_ports (in_stream p ins) n 0 takes) in
+    let rows : rows_together lists ≡ first_rows 32 ins =
     all-ports ins (in_stream p ins) (λ i. refl) n takes 32 h.few_inputs h.nothing_past in
-    let whole : List Row = merged_rows g (all_rows lists) in
+    let whole : List Row = merged_rows g (rows_together lists) in
     gives-held (λ out. IsPermutation whole out) p outs
     (all_done (at_ports (in_stream p ins) n 0 takes)) (whole, IsPermutation-refl whole)
     (λ e. (m.rows.gathering e).nothing_made)
     (λ e.
     let all = all-worked h m (λ i. e) in
-    let worked : first_rows 32 m.worked ≡ all_rows lists =
+    let worked : first_rows 32 m.worked ≡ rows_together lists =
     (λ j. first_rows 32 (λ i. (all i).1 j)) ∙ sym rows in (
       all-done (in_stream p ins) (λ i. (all i).0) n 0 takes,
       grind arith,

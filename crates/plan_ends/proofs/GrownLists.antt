@@ -1,6 +1,6 @@
 -- A graph of lawful boxes grows by its lists of parts alone, each by the sources of its parts.
 use Rattle.std.proofs.lemmas.Grind.{common_steps}
-use Rattle.plan_ends.proofs.Prelude.{Bool, List, None, Option, Some, [], ap, ap₂, arith, cond, count_by, false, flat_map, get_or, inl, inr, is_some, length, map, refl, subst, suc, sum_by, sym, true, zero, ℕ, ◌++◌, ◌+◌, ◌<◌, ◌==◌, ◌∙◌, ◌∷◌, ◌≡◌, ◌≤◌, ◌⊎◌, All, All-from_recursion, AllByRecursion, ArePartBytes, BoxPicture, Contains, Contains-append_right, DraftNode, Files, GrowthForm, PartSpec, Spec, Wire, both_ways, box_at, cases_lt, get_or_default, get_or_past, input_count, no_wire, output_count, part_spec, paths_in, sum_by-append, sum_by-cons, unboxed, wire_at, grows-lawfully, AreAllBorn, AreOnce, Birth, HasForm, IsBirth, all_places, births_of, born_wires, form_at, growth_list, growths_of, kept_growths, new_wires, ArePortsOf, IsListGrowth, MayGrow, SpecForm, list_growth, listed_edges, listed_part, listed_parts, grown_inputs, is_me, Edge, Reserve, eqb-true, All-contains_itself, All-filter, filter_passes, length-map, nil_from_length, HasGrown, HasListed, IsListedNode, IsUngrown, reading_in, GrowsLawfully}
+use Rattle.plan_ends.proofs.Imports.{Bool, List, None, Option, Some, [], ap, ap₂, arith, cond, count_by, false, flat_map, get_or, inl, inr, is_some, length, map, refl, subst, suc, sum_by, sym, true, zero, ℕ, ◌++◌, ◌+◌, ◌<◌, ◌==◌, ◌∙◌, ◌∷◌, ◌≡◌, ◌⊎◌, All, All-from_recursion, AllByRecursion, ArePartBytes, BoxPicture, Contains, Contains-append_right, DraftNode, Files, GrowthForm, PartSpec, Spec, Wire, both_ways, box_at, cases_lt, get_or_default, get_or_past, input_count, no_wire, output_count, part_spec, paths_in, sum_by-append, sum_by-cons, unboxed, wire_at, grows-lawfully, AreAllBorn, AreOnce, Birth, HasForm, IsBirth, all_places, births_of, born_wires, form_at, growth_list, growths_of, kept_growths, new_wires, ArePortsOf, IsListGrowth, MayGrow, SpecForm, list_growth, listed_edges, listed_part, listed_parts, grown_inputs, is_me, Edge, Reserve, eqb-true, All-contains_itself, All-filter, filter_passes, length-map, nil_from_length, HasGrownByLists, HasListed, IsListedNode, IsUngrown, reading_in, GrowsLawfully}
 use Rattle.query_model.specs.declared.processor_spec.Spec.TheVariants as spec
 
 -- ---- the wires of a list's growth
@@ -179,7 +179,9 @@ form-csv o f part e h = grind arith
 
 may-none : (s : Spec) (files : Option Files) (o : Option GrowthForm) → IsUngrown s
     → MayGrow (Some s) files o → o ≡ None
-may-none s files o u m = grind arith
+may-none s files None u m = refl
+may-none (spec.List list) files (Some g) u m = absurd u
+may-none s files (Some g) u m = absurd m
 
 -- a loaded box is one of the list
 pub born-within : (boxes : List BoxPicture) (n : ℕ) → is_some (box_at boxes n).spec ≡ true
@@ -372,7 +374,7 @@ module _ (files : Files) (nodes : List DraftNode) (wires : List Wire) (reserves 
           ∙ ap grown_inputs (sym c.grows)
 
   -- A graph of lawful boxes has grown by its lists, each by the sources of its parts.
-  pub grown-lists : HasGrown files nodes wires new after
+  pub grown-lists : HasGrownByLists files nodes wires new after
   grown-lists = record {
     inputs = grind (arith, unfed, no-growth);
     outputs = outputs-stay;

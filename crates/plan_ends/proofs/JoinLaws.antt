@@ -1,11 +1,12 @@
 -- What a join keeps is what it gives.
-use Rattle.plan_ends.proofs.Prelude.{Bool, IsPermutation, List, [], ap, append_assoc, arith, false, not, refl, subst, sym, true, ◌++◌, ◌<◌, ◌∙◌, ◌≡◌, BoxPicture, GivesJoined, IsPermutation-append_left, IsPermutation-refl, IsReadUp, JoinSpec, KeepsMade, Lists, Row, and_parts, append-nil, chunk_rows, joined_rows, joined_rows-append, kept_outputs, rows-append, unworked_at, IsKept, KindGives, in_stream, out_stream}
+use Rattle.proc_api.specs.Names.{IsJoinWork, IsWorkOf}
+use Rattle.plan_ends.proofs.Imports.{Bool, IsPermutation, List, [], ap, append_assoc, arith, false, not, refl, subst, sym, true, ◌++◌, ◌<◌, ◌∙◌, ◌≡◌, BoxPicture, GivesJoined, IsPermutation-append_left, IsPermutation-refl, IsReadUp, JoinSpec, KeepsMade, Lists, Row, and_parts, append-nil, chunk_rows, joined_rows, joined_rows-append, kept_outputs, rows-append, unworked_at, KeepsContract, KindGives, in_stream, out_stream}
 use Rattle.query_model.specs.declared.processor_spec.Spec.TheVariants as spec
 use Rattle.plan_ends.proofs.KindLaws.{all-worked-at, at-ports, kept-rows, one-output, stays-open}
 use Rattle.plan_ends.proofs.SortLaws.{all-fit-at, front-none, read-up}
 
 module _ (join : JoinSpec) (files : _) (p : BoxPicture) (ins outs : Lists)
-    (k : IsKept (spec.HashJoin join) files 2 1 p ins outs)
+    (k : KeepsContract (spec.HashJoin join) files 2 1 p ins outs)
     (m : KeepsMade (spec.HashJoin join) p ins outs) where
   abbrev out : List Row
   out = chunk_rows (outs 0)
@@ -29,7 +30,11 @@ module _ (join : JoinSpec) (files : _) (p : BoxPicture) (ins outs : Lists)
 
   -- before the end of the second input is noted nothing is pulled of the first
   none-pulled : p.work.ended ≡ false → chunk_rows (ins 0) ≡ []
-  none-pulled e = search (arith, rows-append)
+  none-pulled e =
+      let idle : IsJoinWork p.work = subst (λ s. IsWorkOf s p.work) k.loaded k.keeps.idle in
+      let none : others ≡ [] = ap chunk_rows (idle.right_first e) in
+      ap chunk_rows (m.ins_are 0) ∙ rows-append (m.worked 0) (unworked_at p.work 0)
+      ∙ rw (m.rows.none_left e, none) refl
 
   pairs-given : GivesJoined join.pairs (in_stream p ins 0) (in_stream p ins 1) (out_stream p outs 0)
   pairs-given = go p.work.ended refl

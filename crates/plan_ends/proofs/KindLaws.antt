@@ -1,5 +1,5 @@
 -- What a kind keeps is what it gives, a kind at a time.
-use Rattle.plan_ends.proofs.Prelude.{Bool, List, Some, [], ap, append_assoc, arith, false, filter, get_or, inl, inr, length, map, refl, subst, suc, sym, true, zero, ℕ, ◌++◌, ◌+◌, ◌<◌, ◌∙◌, ◌∷◌, ◌≡◌, ◌≤◌, ◌⊎◌, All, All-head, All-nil, All-tail, AllByRecursion, AllFit, Any, BoxPicture, ColumnType, Cond, Expr, Files, FitFrom, FitsInput, Gives, GivesFront, GivesPart, GivesThrough, HasReadEnough, IsItem, IsPulled, IsTypedCond, Keeps, KeepsMade, KeepsPart, KeepsRows, KeepsThrough, Lists, MakesType, MakesTypes, NodePort, PartSpec, Row, Span, Spec, Table, WorkState, and_parts, append-nil, both_ways, cases_eq, cases_lt, chunk_rows, cond_both, false_from_ne_true, flat_map-append, get_or-map, holds, item_row, kept_output, kept_outputs, length-map, limited, limited-extends, no-rest, no_table, not-true, not_from_false, numbers, ports_of, pulled_types, recursion_from_All, type_of, unworked_at, BoxGives, part_of, parts_of, chunk_types, in_stream, out_stream, IsKept, KindGives}
+use Rattle.plan_ends.proofs.Imports.{Bool, List, Some, [], ap, append_assoc, arith, false, filter, get_or, inl, inr, length, map, refl, subst, suc, sym, true, zero, ℕ, ◌++◌, ◌+◌, ◌<◌, ◌∙◌, ◌∷◌, ◌≡◌, ◌≤◌, ◌⊎◌, All, All-head, All-nil, All-tail, AllByRecursion, AllFit, Any, BoxPicture, ColumnType, Cond, Expr, Files, FitFrom, FitsInput, Gives, GivesFront, GivesSource, GivesThrough, HasReadEnough, IsItem, IsPulled, IsTypedCond, Keeps, KeepsMade, KeepsPart, KeepsRows, Lists, MakesType, MakesTypes, NodePort, PartSpec, Row, Span, Spec, Table, WorkState, and_parts, append-nil, both_ways, cases_eq, cases_lt, chunk_rows, cond_both, false_from_ne_true, flat_map-append, get_or-map, holds, item_row, kept_output, kept_outputs, length-map, limited, limited-extends, no-rest, no_table, not-true, not_from_false, numbers, ports_of, pulled_types, recursion_from_All, type_of, unworked_at, BoxGives, part_of, sources_of_files, chunk_types, in_stream, out_stream, KeepsContract, KindGives, Extends, filter-append, map-append}
 use Rattle.query_model.specs.declared.processor_spec.Spec.TheVariants as spec
 
 -- a box that finished an output which nobody closed has closed no input, but for a limit that has
@@ -23,10 +23,31 @@ pub front-of : (rows left : List Row) (p : BoxPicture) (outs : Lists)
     → GivesFront rows (out_stream p outs 0)
 front-of rows left p outs e over = search (arith, and_parts, append-nil)
 
-through-gives : (make : List Row → List Row) (p : BoxPicture) (ins outs : Lists) → make [] ≡ []
-    → Keeps p ins outs → KeepsThrough make p ins outs → (HasReadEnough p.spec ins → ⊥)
-    → 0 < kept_outputs p → GivesThrough make (in_stream p ins 0) (out_stream p outs 0)
-through-gives make p ins outs none k t unlimited some = grind (arith, front-of, stays-open)
+-- where no chunk is unworked, none of any input is
+pub all-worked-at : (w : WorkState) (i : ℕ) → w.unworked ≡ [] → unworked_at w i ≡ []
+all-worked-at w i e = search (arith, cond_both)
+
+-- The rows that were pushed are the first of what a kind makes of those of its input, where it has
+-- made that of the rows that it worked.
+made-front : (make : List Row → List Row) → Extends make → (s : Spec) (p : BoxPicture)
+    (ins outs : Lists) (m : KeepsMade s p ins outs)
+    → chunk_rows (outs 0) ++ chunk_rows p.work.made ≡ make (chunk_rows (m.worked 0))
+    → GivesFront (make (chunk_rows (ins 0))) (out_stream p outs 0)
+made-front make extends s p ins outs m made =
+    let done : List Row = chunk_rows (m.worked 0) in
+    let others : List Row = chunk_rows (unworked_at p.work 0) in
+    let more = extends done others in
+    let all : done ++ others ≡ chunk_rows (ins 0) = grind (arith, flat_map-append) in
+    front-of (make (chunk_rows (ins 0))) more.0 p outs
+    (sym (append_assoc (chunk_rows (outs 0)) (chunk_rows p.work.made) more.0)
+    ∙ ap (λ l. l ++ more.0) made ∙ more.1 ∙ ap make all)
+    (λ f.
+    let end = m.over 0 f in
+    let none : others ≡ [] =
+    ap chunk_rows (all-worked-at p.work 0 end.all_worked) in (
+      end.nothing_waits,
+      grind (arith, no-rest, append-nil),
+    ))
 
 -- ---- what was pulled
 
@@ -91,7 +112,7 @@ is-among Q p ins n takes types past w q = elim (cases_lt w.input takes) [
 
 -- the chunks of an output are what the kind makes of these types, where the contract says so
 pub made-typed : {s : Spec} {files : Files} {takes gives : ℕ} {p : BoxPicture} {ins outs : Lists}
-    → IsKept s files takes gives p ins outs → (from : List (List ColumnType)) (o : ℕ)
+    → KeepsContract s files takes gives p ins outs → (from : List (List ColumnType)) (o : ℕ)
     → ((t : List ColumnType) → MakesTypes (Some s) ins t → MakesType s from t)
     → AllByRecursion (MakesType s from) (chunk_types (outs o))
 made-typed {s} {ins = ins} {outs} k from o makes =
@@ -108,14 +129,16 @@ made-typed {s} {ins = ins} {outs} k from o makes =
 
 -- what is kept of a kind, where each chunk that was pulled fits
 pub kept-rows : {s : Spec} {files : Files} {takes gives : ℕ} {p : BoxPicture} {ins outs : Lists}
-    → IsKept s files takes gives p ins outs → AllFit (Some s) ins → KeepsRows (Some s) p ins outs
+    → KeepsContract s files takes gives p ins outs → AllFit (Some s) ins
+    → KeepsRows (Some s) p ins outs
 kept-rows {p = p} {ins} {outs} k = grind arith
 
 -- a kind of one output, by what it gives and the types that it makes
 pub one-output : {s : Spec} {files : Files} {takes : ℕ} (n : ℕ) {p : BoxPicture} {ins outs : Lists}
-    → IsKept s files takes 1 p ins outs
+    → KeepsContract s files takes 1 p ins outs
     → (FitFrom s 0 (map (λ (q : NodePort). in_stream p ins q.port) (ports_of n 0 takes))
-    → Gives (parts_of files) s (map (λ (q : NodePort). in_stream p ins q.port) (ports_of n 0 takes))
+    → Gives (sources_of_files files) s
+    (map (λ (q : NodePort). in_stream p ins q.port) (ports_of n 0 takes))
     (out_stream p outs 0 ∷ []))
     → ((t : List ColumnType) → MakesTypes (Some s) ins t → MakesType s
     (pulled_types (map (λ (q : NodePort). in_stream p ins q.port) (ports_of n 0 takes))) t)
@@ -124,46 +147,54 @@ one-output n k gives makes =
     record { gives = gives; typed = λ fit. (made-typed k _ 0 makes, tt) }
 
 -- a kind of one input and one output that makes each chunk's rows one by one
-through-kind : (make : List Row → List Row) (s : Spec) (P : List ColumnType → Type 0) (n : ℕ)
-    {files : Files} {p : BoxPicture} {ins outs : Lists}
-    → make [] ≡ [] → ((i : ℕ) (t : List ColumnType) → P t → FitsInput (Some s) i t)
+through-kind : (make : List Row → List Row) → Extends make → (s : Spec)
+    (P : List ColumnType → Type 0) (n : ℕ) {files : Files} {p : BoxPicture} {ins outs : Lists}
+    → ((i : ℕ) (t : List ColumnType) → P t → FitsInput (Some s) i t)
     → (AllByRecursion (FitsInput (Some s) 0) (chunk_types (ins 0))
     → AllByRecursion P (chunk_types (ins 0)))
     → (HasReadEnough (Some s) ins → ⊥)
-    → (KeepsRows (Some s) p ins outs → KeepsThrough make p ins outs)
+    → (KeepsRows (Some s) p ins outs → (m : KeepsMade s p ins outs)
+    × (chunk_rows (outs 0) ++ chunk_rows p.work.made ≡ make (chunk_rows (m.worked 0))))
     → (GivesThrough make (in_stream p ins 0) (out_stream p outs 0)
-    → Gives (parts_of files) s (in_stream p ins 0 ∷ []) (out_stream p outs 0 ∷ []))
+    → Gives (sources_of_files files) s (in_stream p ins 0 ∷ []) (out_stream p outs 0 ∷ []))
     → ((t : List ColumnType) → MakesTypes (Some s) ins t
     → MakesType s (chunk_types (ins 0) ++ []) t)
-    → IsKept s files 1 1 p ins outs → BoxGives s files 1 1 n p ins outs
-through-kind make s P n {p = p} {ins} {outs} none same from unlimited keeps gives makes k =
+    → KeepsContract s files 1 1 p ins outs → BoxGives s files 1 1 n p ins outs
+through-kind make extends s P n {p = p} {ins} {outs} same from unlimited keeps gives makes k =
     one-output n k
-    (λ fit. gives (through-gives make p ins outs none k.keeps
-    (keeps (kept-rows k (one-fits s P ins same k.nothing_past (from fit.0))))
-    (subst (λ z. HasReadEnough z ins → ⊥) (sym k.loaded) unlimited)
-    (let e = k.outputs in omega (arith, e)))) makes
+    (λ fit.
+    let m = keeps (kept-rows k (one-fits s P ins same k.nothing_past (from fit.0))) in
+    let some : 0 < kept_outputs p = let e = k.outputs in omega (arith, e) in
+    gives (record {
+      front = made-front make extends s p ins outs m.0 m.1;
+      input_done = stays-open p ins outs 0 0 k.keeps
+          (subst (λ z. HasReadEnough z ins → ⊥) (sym k.loaded) unlimited) some;
+    })) makes
 
 -- with as many ports as the spec says
 pub at-ports : {s : Spec} {files : Files} (n : ℕ) {takes gives : ℕ} (m o : ℕ) {p : BoxPicture}
     {ins outs : Lists} → takes ≡ m → gives ≡ o
-    → (IsKept s files m o p ins outs → BoxGives s files m o n p ins outs)
-    → IsKept s files takes gives p ins outs → BoxGives s files takes gives n p ins outs
+    → (KeepsContract s files m o p ins outs → BoxGives s files m o n p ins outs)
+    → KeepsContract s files takes gives p ins outs → BoxGives s files takes gives n p ins outs
 at-ports {s} {files} n {gives = gives} m o {p} {ins} {outs} e f h = search (arith)
 
 -- A filter gives the rows at which its condition is true.
 pub filter-gives : (c : Cond) → KindGives (spec.Filter c)
 filter-gives c files takes gives n p ins outs k =
     at-ports n 1 1 k.ports.0 k.ports.1
-    (λ h. through-kind (filter (holds c)) (spec.Filter c) (λ t. IsTypedCond t c) n refl
-    (λ i t x. x) (λ x. x) (λ x. x) (λ x. x) (λ x. x)
+    (λ h. through-kind (filter (holds c))
+    (λ xs ys. (filter (holds c) ys, sym (filter-append (holds c) xs ys))) (spec.Filter c)
+    (λ t. IsTypedCond t c) n (λ i t x. x) (λ x. x) (λ x. x) (λ m. (m, m.rows)) (λ x. x)
     (λ t w. is-among (λ u. t ≡ u) p ins n 1 t h.nothing_past w.pulled refl) h) k
 
 -- An expression gives the row of its items' values for each row.
 pub expression-gives : (items : List Expr) → KindGives (spec.Expression items)
 expression-gives items files takes gives n p ins outs k =
     at-ports n 1 1 k.ports.0 k.ports.1
-    (λ h. through-kind (map (item_row items)) (spec.Expression items) (λ t. All (IsItem t) items) n
-    refl (λ i t x. x) (λ x. x) (λ x. x) (λ x. x) (λ x. x)
+    (λ h. through-kind (map (item_row items))
+    (λ xs ys. (map (item_row items) ys, sym (map-append (item_row items) xs ys)))
+    (spec.Expression items) (λ t. All (IsItem t) items) n (λ i t x. x) (λ x. x) (λ x. x)
+    (λ m. (m, m.rows)) (λ x. x)
     (λ t w. is-among (λ u. t ≡ map (λ e. type_of e u) items) p ins n 1 w.from h.nothing_past
     w.pulled w.is) h) k
 
@@ -173,11 +204,11 @@ part-gives part files takes gives n p ins outs k =
     at-ports n 0 1 k.ports.0 k.ports.1
     (λ h. one-output n h (λ fit. rows h p.work.fetched refl) (λ t e. e)) k
   where
-    keeps : IsKept (spec.Csv part) files 0 1 p ins outs → KeepsPart part p outs
+    keeps : KeepsContract (spec.Csv part) files 0 1 p ins outs → KeepsPart part p outs
     keeps h = kept-rows h (λ i d x lt. tt)
 
-    rows : IsKept (spec.Csv part) files 0 1 p ins outs → (b : Bool) → p.work.fetched ≡ b
-        → GivesPart (part_of files part) (out_stream p outs 0)
+    rows : KeepsContract (spec.Csv part) files 0 1 p ins outs → (b : Bool) → p.work.fetched ≡ b
+        → GivesSource (part_of files part) (out_stream p outs 0)
     rows h false f =
         let nothing = (keeps h).before f in
         let never : (kept_output p 0).fin_out ≡ true → ⊥ = grind (arith, both_ways, keeps) in
@@ -191,41 +222,22 @@ part-gives part files takes gives n p ins outs k =
         }
     rows h true f = grind (arith, keeps, front-of, and_parts)
 
+numbers-typed : (count rows : ℕ) (ins : Lists) (from : List (List ColumnType))
+    (t : List ColumnType) → MakesTypes (Some (spec.Numbers count rows)) ins t
+    → MakesType (spec.Numbers count rows) from t
+numbers-typed count rows ins from t e = e
+
 -- Numbers count up.
 pub numbers-gives : (count rows : ℕ) → KindGives (spec.Numbers count rows)
 numbers-gives count rows files takes gives n p ins outs k =
     at-ports n 0 1 k.ports.0 k.ports.1
     (λ h.
     let m = kept-rows h (λ i d x lt. tt) in
-    one-output n h (λ fit. front-of (numbers count).rows p.work.unmade p outs
+    one-output {s = spec.Numbers count rows} n h
+    (λ fit. front-of (numbers count).rows p.work.unmade p outs
     (sym (append_assoc (chunk_rows (outs 0)) (chunk_rows p.work.made) p.work.unmade) ∙ m.rows)
-    (λ f. let end = m.over 0 f in (end.nothing_waits, end.all_made))) (λ t e. e)) k
-
--- where no chunk is unworked, none of any input is
-pub all-worked-at : (w : WorkState) (i : ℕ) → w.unworked ≡ [] → unworked_at w i ≡ []
-all-worked-at w i e = search (arith, cond_both)
-
--- ---- limits
-
-limit-front : (span : Span) (p : BoxPicture) (ins outs : Lists)
-    → KeepsMade (spec.Limit span) p ins outs
-    → GivesFront (limited (Some span) (chunk_rows (ins 0))) (out_stream p outs 0)
-limit-front span p ins outs m =
-    let done : List Row = chunk_rows (m.worked 0) in
-    let others : List Row = chunk_rows (unworked_at p.work 0) in
-    let more = limited-extends span done others in
-    let all : done ++ others ≡ chunk_rows (ins 0) = grind (arith, flat_map-append) in
-    front-of (limited (Some span) (chunk_rows (ins 0))) more.0 p outs
-    (sym (append_assoc (chunk_rows (outs 0)) (chunk_rows p.work.made) more.0)
-    ∙ ap (λ l. l ++ more.0) m.rows.made_are
-    ∙ more.1 ∙ ap (limited (Some span)) all)
-    (λ f.
-    let end = m.over 0 f in
-    let none : others ≡ [] =
-    ap chunk_rows (all-worked-at p.work 0 end.all_worked) in (
-      end.nothing_waits,
-      grind (arith, no-rest, append-nil),
-    ))
+    (λ f. let end = m.over 0 f in (end.nothing_waits, end.all_made)))
+    (numbers-typed count rows ins [])) k
 
 -- A limit gives the rows of its span.
 pub limit-gives : (span : Span) → KindGives (spec.Limit span)
@@ -234,7 +246,10 @@ limit-gives span files takes gives n p ins outs k =
     (λ h.
     let some : 0 < kept_outputs p = let e = h.outputs in omega (arith, e) in
     one-output n h (λ fit. record {
-      front = limit-front span p ins outs (kept-rows h (λ i d x lt. tt));
+      front =
+          let m = kept-rows h (λ i d x lt. tt) in
+          made-front (limited (Some span)) (limited-extends span) (spec.Limit span) p ins outs m
+          m.rows.made_are;
       input_done = grind (arith, open-or-enough);
     }) (λ t w. is-among (λ u. t ≡ u) p ins n 1 t h.nothing_past w refl)) k
 

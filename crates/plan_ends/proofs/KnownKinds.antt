@@ -1,5 +1,5 @@
 -- Plans have nodes of known kinds alone.
-use Rattle.plan_ends.proofs.Prelude.{IfSome, List, None, Option, Some, [], arith, refl, subst, suc, sym, zero, ℕ, ◌<◌, ◌∷◌, ◌≡◌, AllByRecursion, ArePortsOf, DraftNode, GrowthForm, IsPlan, IsSource, JoinsSources, NodeForm, PartSpec, PlanJoin, PlanShape, SelectPlan, SortSpec, Span, Spec, by-forms, every-append, every-front, every-weaker, forms, body_nodes, collect_node, gather_nodes, lane_nodes, lane_steps, limit_nodes, node_form, plan_nodes, read_nodes, read_steps, same-spec, select_steps, shape_nodes, sort_nodes, source_nodes, ⊤, IsReady, IsStep, IsUngrown, KindGives, KnownPorts, SourceHas}
+use Rattle.plan_ends.proofs.Imports.{IfSome, List, None, Option, Some, [], arith, inr, refl, subst, suc, sym, zero, ℕ, ◌<◌, ◌∷◌, ◌≡◌, AllByRecursion, ArePortsOf, DraftNode, GrowthForm, IsPlan, IsSourceSpec, JoinsSources, NodeForm, PartSpec, PlanJoin, PlanShape, SelectPlan, SortSpec, Span, Spec, by-forms, every-append, every-front, every-weaker, forms, body_nodes, collect_node, gather_nodes, lane_nodes, lane_steps, limit_nodes, node_form, plan_nodes, read_nodes, read_steps, same-spec, select_steps, shape_nodes, sort_nodes, source_nodes, ⊤, IsReady, IsStep, IsUngrown, KindGives, KnownPorts, SourceHas}
 use Rattle.query_model.specs.declared.processor_spec.Spec.TheVariants as spec
 use Rattle.plan_ends.proofs.GroupLaws.{merged-gives, partial-gives}
 use Rattle.plan_ends.proofs.JoinLaws.{join-gives}
@@ -11,7 +11,8 @@ use Rattle.plan_ends.proofs.SortLaws.{merge-gives, sort-gives}
 
 known-ports : (s : Spec) (takes gives : ℕ) → IsUngrown s → KnownPorts s takes gives
     → (g : Option GrowthForm) → ArePortsOf (Some s) g takes gives
-known-ports s takes gives u h g = grind arith
+known-ports (spec.List list) takes gives u h g = absurd u
+known-ports s takes gives u h g = h
 
 -- the contract of each known kind gives its promises
 known-gives : (s : Spec) → IsUngrown s → KindGives s
@@ -38,7 +39,9 @@ known-ready P L n h = go n.spec refl h.0
         grind (arith, known-ports n.spec n.takes n.gives u ports, known-gives n.spec u)
 
     go : (s : Spec) → n.spec ≡ s → KnownPorts n.spec n.takes n.gives → IsReady n
-    go (spec.List list) e ports = grind arith
+    go (spec.List list) e ports =
+        let counts = subst (λ x. KnownPorts x n.takes n.gives) e ports in
+        inr (record { list = list; is = e; takes = counts.0; gives = counts.1 })
     go s e ports = ordinary (subst IsUngrown (sym e) tt) ports
 
 -- What is true of each node of a rank and with known ports that is no source's is true of those
@@ -94,7 +97,7 @@ module _ (P L : PartSpec → Type 0) where
 
   -- ---- the nodes of a plan
 
-  sources-known : (i : ℕ) (specs : List Spec) → AllByRecursion IsSource specs
+  sources-known : (i : ℕ) (specs : List Spec) → AllByRecursion IsSourceSpec specs
       → AllByRecursion (SourceHas P L) specs → AllByRecursion (IsStep P L) (source_nodes i specs)
   sources-known i [] h parts = tt
   sources-known i (s ∷ specs) h parts = grind (arith, sources-known (suc i) specs h.1 parts.1)
@@ -166,21 +169,22 @@ plan-ready p nodes is e =
 -- ---- ranks
 
 -- each node has a rank above that of the sources that a list grows by
-abbrev pub IsRanked : DraftNode → Type 0
-IsRanked n = 0 < n.rank
+abbrev pub IsAboveSources : DraftNode → Type 0
+IsAboveSources n = 0 < n.rank
 
-sources-ranked : (i : ℕ) (specs : List Spec) → AllByRecursion IsRanked (source_nodes i specs)
+sources-ranked : (i : ℕ) (specs : List Spec) → AllByRecursion IsAboveSources (source_nodes i specs)
 sources-ranked i [] = tt
 sources-ranked i (s ∷ specs) = (omega arith, sources-ranked (suc i) specs)
 
 pub plan-ranked : (p : SelectPlan) (nodes : List DraftNode) → forms nodes ≡ forms (plan_nodes p)
-    → AllByRecursion IsRanked nodes
+    → AllByRecursion IsAboveSources nodes
 plan-ranked p nodes e =
-    by-forms (λ xs ys. AllByRecursion IsRanked ys → AllByRecursion IsRanked xs) (λ h. tt)
+    by-forms (λ xs ys. AllByRecursion IsAboveSources ys → AllByRecursion IsAboveSources xs)
+    (λ h. tt)
     (λ x y xs ys same rest h.
     (subst (λ (f : NodeForm). 0 < f.rank) (sym same) h.0, rest h.1)) nodes (plan_nodes p) e
-    (plan-have IsRanked (λ s rank offset takes gives r h none. r) p (read p.join))
+    (plan-have IsAboveSources (λ s rank offset takes gives r h none. r) p (read p.join))
   where
-    read : (j : Option PlanJoin) → AllByRecursion IsRanked (read_nodes p.sources j p.lanes)
+    read : (j : Option PlanJoin) → AllByRecursion IsAboveSources (read_nodes p.sources j p.lanes)
     read None = search (arith, every-append, sources-ranked)
     read (Some j) = search (arith, every-append, sources-ranked)

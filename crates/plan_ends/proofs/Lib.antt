@@ -1,4 +1,4 @@
-pub mod Prelude
+pub mod Imports
 pub mod Pulls
 pub mod Pulled
 pub mod KindLaws

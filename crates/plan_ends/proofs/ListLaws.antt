@@ -1,5 +1,5 @@
 -- What a list of parts keeps, with what its parts' sources give, is what it gives.
-use Rattle.plan_ends.proofs.Prelude.{IsPermutation, List, None, Option, Some, [], ap, ap₂, arith, filter, get_or, inl, inr, length, length-append, refl, subst, suc, sym, true, ℕ, ◌&&◌, ◌++◌, ◌+◌, ◌-◌, ◌<◌, ◌==◌, ◌∙◌, ◌∷◌, ◌≡◌, ◌≤◌, ◌||◌, ◌⊎◌, All, All-nil, AllByRecursion, AllZip, BoxPicture, CompletesKind, Files, Flow, GivesIf, GivesListed, GivesPart, GivesResized, IsFront, IsPermutation-refl, KeepsList, Lists, Makes, Part, PartSpec, Parts, Pulls, Reading, Row, Spec, Stream, Table, all_certain, all_rows, all_valid, and_from, and_parts, any_needs, append-nil, bad_line, bad_line_in, cases_lt, chunk_rows, complete-kind, every-front, file_bytes, flow_rows, flows_of, get_or_default, is_path, is_valid_source, length_permutation, part-front, part_spec, path_sources, paths_in, pulled-front, source_list, sources_rows, ⊤, IsKept, in_stream, list_in, listed_sources, out_stream, part_of, parts_of, paths_of, reading_in, nil_from_length}
+use Rattle.plan_ends.proofs.Imports.{IsPermutation, List, None, Option, Some, [], ap, ap₂, arith, filter, get_or, inl, inr, length, length-append, refl, subst, suc, sym, true, ℕ, ◌&&◌, ◌++◌, ◌+◌, ◌-◌, ◌<◌, ◌==◌, ◌∙◌, ◌∷◌, ◌≡◌, ◌≤◌, ◌||◌, ◌⊎◌, All, All-nil, AllByRecursion, AllZip, BoxPicture, CompletesKind, Files, Flow, GivesIf, GivesListed, GivesSource, GivesResized, IsFront, IsPermutation-refl, KeepsList, Lists, MakesRows, SourceRows, PartSpec, RowsOfSources, Pulls, SourceReading, Row, Spec, Stream, Table, all_certain, rows_together, all_valid, and_from, and_parts, any_needs, append-nil, bad_line, bad_line_in, cases_lt, chunk_rows, complete-kind, every-front, file_bytes, flow_rows, flows_of, get_or_default, is_path, is_valid_source, length_permutation, part-front, part_spec, path_sources, paths_in, pulled-front, source_list, sources_rows, ⊤, KeepsContract, in_stream, list_in, listed_sources, out_stream, part_of, sources_of_files, parts_of_files, reading_in, nil_from_length}
 use Rattle.query_model.specs.declared.processor_spec.Spec.TheVariants as spec
 use Rattle.plan_ends.proofs.KindLaws.{kept-rows, made-typed, types-fit}
 use Rattle.plan_ends.proofs.ResizeLaws.{at_ports, gives-resized}
@@ -21,19 +21,20 @@ few-paths-in text = grind (arith, few-lines)
 -- ---- what the sources of a list's parts give
 
 -- An input has the first of what the source of a part gave, whose chunks have the part's types.
-pub record IsFed (files : Files) (r : Reading) (i : Stream) (k : ℕ) (path : List ℕ) : Type 0 where
+pub record IsFed (files : Files) (r : SourceReading) (i : Stream) (k : ℕ) (path : List ℕ) : Type
+    0 where
   pub pushed : Stream
-  pub gives : GivesPart (part_of files (part_spec r k path)) pushed
+  pub gives : GivesSource (part_of files (part_spec r k path)) pushed
   pub typed : AllByRecursion (λ t. t ≡ r.types) pushed.types
   pub pulls : Pulls i pushed
 
 -- each of the first inputs is that of a path
-abbrev pub AreFed : Files → Reading → (ℕ → Stream) → List (List ℕ) → Type 0
+abbrev pub AreFed : Files → SourceReading → (ℕ → Stream) → List (List ℕ) → Type 0
 AreFed files r f paths = (i : ℕ) (path : List ℕ) → i < length paths → get_or paths i path ≡ path
     → IsFed files r (f i) (suc i) path
 
 -- what such sources give where nobody closes an input
-abbrev source_flows : Parts → List Spec → List Flow
+abbrev source_flows : RowsOfSources → List Spec → List Flow
 source_flows parts [] = []
 source_flows parts (s ∷ specs) = record {
   rows = source_list parts s;
@@ -41,24 +42,24 @@ source_flows parts (s ∷ specs) = record {
   needs = true;
 } ∷ source_flows parts specs
 
-flows-rows : (parts : Parts) (specs : List Spec)
-    → all_rows (flow_rows (source_flows parts specs)) ≡ sources_rows parts specs
+flows-rows : (parts : RowsOfSources) (specs : List Spec)
+    → rows_together (flow_rows (source_flows parts specs)) ≡ sources_rows parts specs
 flows-rows parts [] = refl
 flows-rows parts (s ∷ specs) = ap (λ l. source_list parts s ++ l) (flows-rows parts specs)
 
-flows-certain : (parts : Parts) (specs : List Spec)
+flows-certain : (parts : RowsOfSources) (specs : List Spec)
     → all_certain (source_flows parts specs) ≡ all_valid parts specs
 flows-certain parts [] = refl
 flows-certain parts (s ∷ specs) = grind (arith, flows-certain parts specs)
 
-fed-fronts : (files : Files) (r : Reading) (f : ℕ → Stream) (n i : ℕ) (paths : List (List ℕ))
+fed-fronts : (files : Files) (r : SourceReading) (f : ℕ → Stream) (n i : ℕ) (paths : List (List ℕ))
     → ((k : ℕ) (path : List ℕ) → k < length paths → get_or paths k path ≡ path
     → IsFed files r (f (i + k)) (suc (i + k)) path)
     → AllZip IsFront (at_ports f n i (length paths))
-    (source_flows (paths_of files) (path_sources r (suc i) paths))
+    (source_flows (parts_of_files files) (path_sources r (suc i) paths))
 fed-fronts files r f n i [] h = tt
 fed-fronts files r f n i (path ∷ paths) h =
-    let part : Part = part_of files (part_spec r (suc i) path) in
+    let part : SourceRows = part_of files (part_spec r (suc i) path) in
     let here : i + 0 ≡ i = omega arith in
     let fed = rw here at (h 0 path (omega arith) refl) in (
       search (arith, pulled-front, part-front),
@@ -68,7 +69,7 @@ fed-fronts files r f n i (path ∷ paths) h =
     )
 
 -- the chunks of an input have the list's types
-fed-typed : (files : Files) (r : Reading) (i : Stream) (k : ℕ) (path : List ℕ)
+fed-typed : (files : Files) (r : SourceReading) (i : Stream) (k : ℕ) (path : List ℕ)
     → IsFed files r i k path → AllByRecursion (λ t. t ≡ r.types) i.types
 fed-typed files r i k path h = grind (arith, every-front)
 
@@ -84,21 +85,22 @@ all-fed files list text f n o fed resized good =
     go done.lists done.makes done.fronts
   where
     flows : List Flow
-    flows = source_flows (paths_of files) (listed_sources list (Some text))
+    flows = source_flows (parts_of_files files) (listed_sources list (Some text))
 
-    part : Part
+    part : SourceRows
     part = list_in files list (Some text)
 
-    done : CompletesKind (Makes (paths_of files) spec.Resize) (all_certain flows) (any_needs flows)
-        flows (o ∷ [])
+    done : CompletesKind (MakesRows (parts_of_files files) spec.Resize) (all_certain flows)
+        (any_needs flows) flows (o ∷ [])
     done =
-        complete-kind (paths_of files) spec.Resize
+        complete-kind (parts_of_files files) spec.Resize
         (at_ports f n 0 (length (paths_in (Some text)))) (o ∷ []) flows resized
         (fed-fronts files (reading_in list) f n 0 (paths_in (Some text)) (λ k path lt is.
         let same : k ≡ 0 + k = omega arith in rw same at (fed k path lt is)))
 
-    go : (lists : List (List Row)) → IsPermutation (all_rows (flow_rows flows)) (all_rows lists)
-        → AllZip IsFront (o ∷ []) (flows_of (all_certain flows) (any_needs flows) lists)
+    go : (lists : List (List Row)) → IsPermutation (rows_together (flow_rows flows))
+        (rows_together lists) → AllZip IsFront (o ∷ [])
+        (flows_of (all_certain flows) (any_needs flows) lists)
         → GivesListed part o
     go [] same fronts = absurd fronts
     go (rows ∷ []) same fronts = grind (arith, flows-rows, append-nil, and_from, flows-certain)
@@ -115,9 +117,9 @@ pub record IsGrownList (list : PartSpec) (files : Files) (takes : ℕ) (p : BoxP
 
 -- A list gives the rows of its parts in some order.
 pub list-gives : (list : PartSpec) (files : Files) (takes n : ℕ) (p : BoxPicture) (ins outs : Lists)
-    → IsKept (spec.List list) files takes 1 p ins outs
+    → KeepsContract (spec.List list) files takes 1 p ins outs
     → (takes ≡ 0) ⊎ IsGrownList list files takes p ins
-    → GivesIf (parts_of files) (spec.List list) [] (out_stream p outs 0 ∷ [])
+    → GivesIf (sources_of_files files) (spec.List list) [] (out_stream p outs 0 ∷ [])
 list-gives list files takes n p ins outs k h =
     record { gives = λ none. go h; typed = λ none. (made-typed k [] 0 (λ t e. e), tt) }
   where
@@ -132,9 +134,10 @@ list-gives list files takes n p ins outs k h =
         keeps.made.rows (λ over. ap₂ (λ a b. chunk_rows a ++ b) over.nothing_waits over.all_made)
 
     -- a list without paths
-    unfed : takes ≡ 0 → KeepsList list p ins outs → GivesListed (parts_of files (spec.List list)) o
+    unfed : takes ≡ 0 → KeepsList list p ins outs
+        → GivesListed (sources_of_files files (spec.List list)) o
     unfed none keeps =
-        let part : Part = parts_of files (spec.List list) in
+        let part : SourceRows = sources_of_files files (spec.List list) in
         let g = resized keeps in
         let rows = length_permutation _ _ g.rows in
         let empty : at_ports (in_stream p ins) n 0 takes ≡ [] =
@@ -155,8 +158,8 @@ list-gives list files takes n p ins outs k h =
         }
       where
         ended : takes ≡ 0 → KeepsList list p ins outs → o.done ≡ true
-            → ((parts_of files (spec.List list)).rows ≡ [])
-            × ((parts_of files (spec.List list)).valid ≡ true)
+            → ((sources_of_files files (spec.List list)).rows ≡ [])
+            × ((sources_of_files files (spec.List list)).valid ≡ true)
         ended none keeps done =
             let over = keeps.finished 0 (and_parts _ _ done).0 in
             let read = keeps.knows.read over.fetched in
@@ -164,12 +167,12 @@ list-gives list files takes n p ins outs k h =
             let paths : paths_in (Some read.text) ≡ [] = grind (arith, nil_from_length) in
             let sources : listed_sources list (Some read.text) ≡ [] = grind arith in
             rw told (
-              ap (sources_rows (paths_of files)) sources,
+              ap (sources_rows (parts_of_files files)) sources,
               grind (arith, and_from),
             )
 
     go : (takes ≡ 0) ⊎ IsGrownList list files takes p ins
-        → GivesListed (parts_of files (spec.List list)) o
+        → GivesListed (sources_of_files files (spec.List list)) o
     go (inl none) = grind (arith, unfed, kept-rows)
     go (inr g) =
         let count = g.count in

@@ -1,5 +1,5 @@
 -- The kinds of nodes.
-use Rattle.plan_ends.proofs.Prelude.{arith, List, [], ap, ap₂, cond, count_by, map, refl, replicate, suc, ℕ, ◌++◌, ◌∙◌, ◌∷◌, ◌≡◌, reserves_from, PlanReserve, DraftNode, Kind, NodeForm, by-forms, counted, forms, kind-same, kind_of, of_kind, same_kind, sum_by-map}
+use Rattle.plan_ends.proofs.Imports.{arith, List, [], ap, ap₂, cond, count_by, map, refl, replicate, suc, ℕ, ◌++◌, ◌∙◌, ◌∷◌, ◌≡◌, reserves_from, PlanReserve, DraftNode, Kind, NodeForm, by-forms, count_over, forms, kind-same, kind_of, of_kind, same_kind, sum_by-map}
 use Rattle.query_model.specs.declared.processor_spec.Kind.TheVariants as kind
 
 abbrev kinds : List DraftNode → List Kind
@@ -14,7 +14,7 @@ kinds-same xs ys e =
 
 -- so many are of a kind
 pub kinds-counted : (k : Kind) (nodes : List DraftNode)
-    → count_by (λ j. same_kind j k) (kinds nodes) ≡ counted (of_kind k) nodes
+    → count_by (λ j. same_kind j k) (kinds nodes) ≡ count_over (of_kind k) nodes
 kinds-counted k nodes = grind (arith, sum_by-map)
 
 -- and so much is kept for them

@@ -1,6 +1,6 @@
 -- The parts that the sources of a used table read, and the lists that name them.
 use Rattle.std.proofs.lemmas.Grind.{common_steps}
-use Rattle.plan_ends.proofs.Prelude.{Bool, IfSome, List, None, Option, Some, [], ap, arith, flat_map, refl, slice_get, suc, sym, true, ℕ, ◌++◌, ◌+◌, ◌<◌, ◌∙◌, ◌∷◌, ◌≡◌, ◌≤◌, ◌⊎◌, All, All-append, All-cons, All-nil, AllByRecursion, CheckedJoin, Cond, Contains, Contains-append_left, Contains-append_right, Declared, Expr, Files, HasEnough, IsCut, IsListUsed, IsValidPart, IsValidUsed, ListFile, Numbers, Part, PartSpec, Parts, PartsDecl, Paths, PlanJoin, Reading, Row, SelectPlan, Span, Spec, TableDecl, TableUse, UsedPart, all_valid, and_parts, both_ways, column_types, declared_sources, enough-some, file_bytes, join_of, join_use, join_valid, numbered_parts, part_paths, part_sources, part_spec, parts_declared, parts_used, path_sources, paths_in, plain, plan_valid, read_rows, read_valid, reading_of, rows_where, shape_rows, sources_rows, table_sources, IsListDeclared, IsValidList, SourceHas, is_valid_list, part_of, parts_of, used_part}
+use Rattle.plan_ends.proofs.Imports.{Bool, IfSome, List, None, Option, Some, [], ap, arith, flat_map, refl, slice_get, suc, sym, true, ℕ, ◌++◌, ◌+◌, ◌<◌, ◌∙◌, ◌∷◌, ◌≡◌, ◌≤◌, ◌⊎◌, All, All-append, All-cons, All-nil, AllByRecursion, CheckedJoin, Cond, Contains, Contains-append_left, Contains-append_right, Declared, Expr, Files, HasEnoughRows, IsCut, IsListUsed, IsValidPart, IsValidUsed, ListFile, Numbers, SourceRows, PartSpec, RowsOfSources, PartsDecl, Paths, PlanJoin, SourceReading, Row, SelectPlan, Span, Spec, TableDecl, TableUse, UsedPart, all_valid, and_parts, both_ways, column_types, declared_sources, enough-some, file_bytes, join_of, join_use, join_valid, numbered_parts, part_paths, part_sources, part_spec, parts_declared, parts_used, path_sources, paths_in, plain, plan_valid, read_rows, read_valid, table_reading, rows_where, shape_rows, sources_rows, table_sources, IsListDeclared, IsValidList, SourceHas, is_valid_list, part_of, sources_of_files, used_part}
 use Rattle.query_model.specs.declared.processor_spec.Spec.TheVariants as spec
 
 -- ---- the parts that are read
@@ -35,7 +35,7 @@ module _ (header : Bool) (tables : List TableDecl) (rows : ℕ) (uses : List Tab
   abbrev pub ReadsUsed : Spec → Type 0
   ReadsUsed = SourceHas (IsPartOf header tables used) (IsListOf header tables uses used)
 
-  path-parts : (r : Reading) (k : ℕ) (paths : List (List ℕ))
+  path-parts : (r : SourceReading) (k : ℕ) (paths : List (List ℕ))
       → ((part : PartSpec) → part.header ≡ r.header → part.table ≡ r.table
       → Contains (numbered_parts r.table r.types k paths) (used_part part)
       → IsPartOf header tables used part)
@@ -55,9 +55,9 @@ module _ (header : Bool) (tables : List TableDecl) (rows : ℕ) (uses : List Tab
       → ((files : Files) (p : UsedPart)
       → Contains (numbered_parts t (column_types table.schema) 1 (part_paths files d)) p
       → Contains (used files) p)
-      → AllByRecursion ReadsUsed (part_sources (reading_of header rows t table) d)
+      → AllByRecursion ReadsUsed (part_sources (table_reading header rows t table) d)
   declared-parts t table (Paths paths) is names use' among =
-      path-parts (reading_of header rows t table) 1 paths
+      path-parts (table_reading header rows t table) 1 paths
       (λ part a b m. record {
         header_is = a;
         table = table;
@@ -86,13 +86,13 @@ module _ (header : Bool) (tables : List TableDecl) (rows : ℕ) (uses : List Tab
 -- ---- valid parts
 
 -- a part that gives all its rows is there and valid
-part-valid : (r : Reading) (k : ℕ) (path : List ℕ) (files : Files)
+part-valid : (r : SourceReading) (k : ℕ) (path : List ℕ) (files : Files)
     → (part_of files (part_spec r k path)).valid ≡ true
     → IsValidPart r.header r.types files path
 part-valid r k path files e = grind (arith, both_ways)
 
-paths-valid : (files : Files) (parts : Parts)
-    → ((part : PartSpec) → parts (spec.Csv part) ≡ part_of files part) → (r : Reading) (k : ℕ)
+paths-valid : (files : Files) (parts : RowsOfSources)
+    → ((part : PartSpec) → parts (spec.Csv part) ≡ part_of files part) → (r : SourceReading) (k : ℕ)
     (paths : List (List ℕ)) → all_valid parts (path_sources r k paths) ≡ true
     → All (IsValidUsed r.header files) (numbered_parts r.table r.types k paths)
 paths-valid files parts same r k [] e = All-nil (IsValidUsed r.header files)
@@ -101,7 +101,7 @@ paths-valid files parts same r k (path ∷ paths) e =
     let next : suc k ≡ k + 1 = omega arith in
     All-cons (IsValidUsed r.header files) _ (numbered_parts r.table r.types (k + 1) paths)
     (part-valid r k path files
-    (sym (ap (λ (p : Part). p.valid) (same (part_spec r k path))) ∙ both.0))
+    (sym (ap (λ (p : SourceRows). p.valid) (same (part_spec r k path))) ∙ both.0))
     (rw next at (paths-valid files parts same r (suc k) paths both.1))
 
 -- a list that gives all its rows is there and valid, and so is each of its parts
@@ -116,14 +116,14 @@ list-valid files path e = grind (arith, both_ways)
 
 -- where all sources of a used table are valid, its parts and its list are
 pub table-valid : (tables : List TableDecl) (header : Bool) (rows : ℕ) (files : Files)
-    (u : TableUse) → all_valid (parts_of files) (table_sources tables header rows u) ≡ true
+    (u : TableUse) → all_valid (sources_of_files files) (table_sources tables header rows u) ≡ true
     → IsValidTable tables header files u
 table-valid tables header rows files (Numbers n) e = grind arith
 table-valid tables header rows files (Declared t) e =
     let r = go (slice_get tables t) e in record { parts = r.0; list = r.1 }
   where
-    of-parts : (r : Reading) (d : PartsDecl)
-        → all_valid (parts_of files) (part_sources r d) ≡ true
+    of-parts : (r : SourceReading) (d : PartsDecl)
+        → all_valid (sources_of_files files) (part_sources r d) ≡ true
         → All (IsValidUsed r.header files) (numbered_parts r.table r.types 1 (part_paths files d))
         × IsValidList files d
     of-parts r (Paths paths) e = search (arith, paths-valid)
@@ -134,15 +134,15 @@ table-valid tables header rows files (Declared t) e =
         )
 
     go : (o : Option TableDecl)
-        → all_valid (parts_of files) (declared_sources header rows t o) ≡ true
+        → all_valid (sources_of_files files) (declared_sources header rows t o) ≡ true
         → All (IsValidUsed header files) (parts_declared files t o) × IsListDeclared files o
     go None e = (All-nil (IsValidUsed header files), tt)
-    go (Some decl) e = of-parts (reading_of header rows t decl) decl.parts e
+    go (Some decl) e = of-parts (table_reading header rows t decl) decl.parts e
 
 -- where all sources of a joined table are valid, its parts are
 pub joined-valid : (tables : List TableDecl) (header : Bool) (rows : ℕ) (files : Files)
     (from : TableUse) (j : Option CheckedJoin)
-    → join_valid (parts_of files) (join_of tables header rows from j) ≡ true
+    → join_valid (sources_of_files files) (join_of tables header rows from j) ≡ true
     → All (IsValidUsed header files) (flat_map (parts_used files tables) (join_use j))
     × All (IsListUsed files tables) (join_use j)
 joined-valid tables header rows files from None e = grind arith
@@ -154,7 +154,7 @@ joined-valid tables header rows files from (Some j) e =
     )
 
 -- where all that is read is valid, both tables are
-pub both-valid : (parts : Parts) (sources : List Spec) (j : Option PlanJoin)
+pub both-valid : (parts : RowsOfSources) (sources : List Spec) (j : Option PlanJoin)
     → read_valid parts sources j ≡ true
     → (all_valid parts sources ≡ true) × (join_valid parts j ≡ true)
 both-valid parts sources j e = grind (arith, and_parts)
@@ -162,10 +162,10 @@ both-valid parts sources j e = grind (arith, and_parts)
 -- ---- bad lists
 
 -- a limit that has enough has a row
-some-row : (limit : Option Span) (rows : List Row) → HasEnough limit rows → rows ≡ [] → ⊥
+some-row : (limit : Option Span) (rows : List Row) → HasEnoughRows limit rows → rows ≡ [] → ⊥
 some-row limit rows h e = grind (arith, enough-some)
 
-none-read : (parts : Parts) (sources : List Spec) (j : Option PlanJoin) (f : Option Cond)
+none-read : (parts : RowsOfSources) (sources : List Spec) (j : Option PlanJoin) (f : Option Cond)
     (items : List Expr) → sources_rows parts sources ≡ []
     → shape_rows (plain items) (rows_where f (read_rows parts sources j)) ≡ []
 none-read parts sources j f items e = grind arith
@@ -176,7 +176,7 @@ pub lists-valid : (tables : List TableDecl) (header : Bool) (rows : ℕ) (files 
     (from : TableUse) (j : Option CheckedJoin) (p : SelectPlan)
     → p.sources ≡ table_sources tables header rows from
     → p.join ≡ join_of tables header rows from j
-    → (plan_valid (parts_of files) p ≡ true) ⊎ IsCut (parts_of files) p
+    → (plan_valid (sources_of_files files) p ≡ true) ⊎ IsCut (sources_of_files files) p
     → All (IsListUsed files tables) (from ∷ join_use j)
 lists-valid tables header rows files from j p sources join h =
     grind (arith, table-valid, joined-valid, both-valid, some-row, none-read)

@@ -1,7 +1,7 @@
 -- The columns that a grouped query picks have the types of its items.
-use Rattle.plan_ends.proofs.Prelude.{Bool, List, [], and_parts, ap₂, append_assoc, arith, cond, false, filter, flat_map, length, length-append, map, nat_lt, refl, sym, true, ℕ, ◌&&◌, ◌++◌, ◌+◌, ◌<◌, ◌∙◌, ◌∷◌, ◌||◌, ◌≡◌, AggCall, All, All-front, All-behind, All-head, All-tail, ArePicks, CanBePicked, ColumnRef, ColumnType, EachWith, ExprOf, FromColumn, HasItsArgument, IsOfKind, IsPick, IsPlacedCall, IsTypeOf, Item, ItemKind, agg_kind, call_is_of_kind, call_type, every_column, expr_columns, expr_is_of_kind, expr_kind, get_or_at, is_key_of, is_typed, item_calls, item_columns, item_kind, key_place, known_type, list_all, list_any, meant, nat_tests, place_in, place_of, same_column, type_of, types_of, typed, unfit}
+use Rattle.plan_ends.proofs.Imports.{Bool, List, [], and_parts, ap₂, append_assoc, arith, cond, false, filter, flat_map, length, length-append, map, nat_lt, refl, sym, true, ℕ, ◌&&◌, ◌++◌, ◌+◌, ◌<◌, ◌∙◌, ◌∷◌, ◌||◌, ◌≡◌, AggCall, All, All-front, All-behind, All-head, All-tail, ArePicks, CanBePicked, ColumnRef, ColumnType, EachWith, ExprOf, FromColumn, HasItsArgument, IsOfKind, IsPick, IsPlacedCall, IsTypeOf, Item, ItemKind, agg_typing, call_is_of_kind, call_type, every_column, expr_columns, expr_is_of_kind, expr_typing, get_or_at, is_key_of, is_typed, item_calls, item_columns, item_typing, key_place, known_type, list_all, list_any, meant, nat_tests, place_in, place_of, same_column, type_of, types_of, typed, unfit}
 use Rattle.chunk_data.specs.declared.typed_value.ColumnType.TheVariants as column
-use Rattle.query_model.specs.Refusals.{Kind, plain}
+use Rattle.query_model.specs.Refusals.{OperandTyping, plain}
 use Rattle.query_model.specs.declared.query.ExprOf.TheVariants as expr
 use Rattle.query_model.specs.declared.query.ItemKind.TheVariants as kind
 use Rattle.plan_ends.proofs.ShapeTypes.{type_at}
@@ -49,13 +49,13 @@ key-type columns (key ∷ keys) rest c one is h =
 -- ---- picks
 
 -- the type of what is of a kind
-pub known-is : (types : List ColumnType) (e : ExprOf ℕ) (k : Kind) → IsOfKind types e k
+pub known-is : (types : List ColumnType) (e : ExprOf ℕ) (k : OperandTyping) → IsOfKind types e k
     → is_typed k ≡ true → known_type k ≡ type_of e types
 known-is types e (plain z) h t = absurd cc
 known-is types e (typed s) h t = sym h.2
 known-is types e unfit h t = absurd cc
 
-known-call : (type : ColumnType) (k : Kind) → IsTypeOf type k → is_typed k ≡ true
+known-call : (type : ColumnType) (k : OperandTyping) → IsTypeOf type k → is_typed k ≡ true
     → known_type k ≡ type
 known-call type (plain z) h t = absurd cc
 known-call type (typed s) h t = sym h
@@ -77,10 +77,10 @@ module _ (columns : List FromColumn) (place : ColumnRef → ℕ) (is_key : Colum
   calls_in items = flat_map (λ (i : Item). item_calls i.what) items
 
   abbrev kind_types : List Item → List ColumnType
-  kind_types items = map (λ (i : Item). known_type (item_kind columns i.what)) items
+  kind_types items = map (λ (i : Item). known_type (item_typing columns i.what)) items
 
-  column-type : (c : ColumnRef) → is_typed (expr_kind columns (expr.Column c)) ≡ true
-      → known_type (expr_kind columns (expr.Column c))
+  column-type : (c : ColumnRef) → is_typed (expr_typing columns (expr.Column c)) ≡ true
+      → known_type (expr_typing columns (expr.Column c))
       ≡ type_at (types_of columns) (place_in columns c)
   unfolding type_of
   column-type c t =
@@ -96,11 +96,11 @@ module _ (columns : List FromColumn) (place : ColumnRef → ℕ) (is_key : Colum
       → All HasItsArgument (calls_in items ++ others)
       → All (MeansOne columns) (flat_map (λ (i : Item). item_columns i.what) items)
       → All (λ (i : Item). CanBePicked is_key i.what) items
-      → list_all (λ (i : Item). is_typed (item_kind columns i.what)) items ≡ true
+      → list_all (λ (i : Item). is_typed (item_typing columns i.what)) items ≡ true
       → ArePicks place k items picks → kind_types items ≡ map (type_at row) picks
   unfolding expr_columns
   picks-types front k (i ∷ items) (p ∷ picks) placed n e calls has one can t are =
-      let each = and_parts (is_typed (item_kind columns i.what)) _ t in
+      let each = and_parts (is_typed (item_typing columns i.what)) _ t in
       let P : Item → Type 0 = (λ (i : Item). CanBePicked is_key i.what) in
       go i.what placed e calls has (All-head P i items can) each.0 are.0 are.1
       (All-front (MeansOne columns) (item_columns i.what) _ one)
@@ -111,7 +111,7 @@ module _ (columns : List FromColumn) (place : ColumnRef → ℕ) (is_key : Colum
       go : (w : ItemKind) (placed : List (AggCall ℕ)) → row ≡ front ++ calls_types placed
           → EachWith Placed ((item_calls w ++ calls_in items) ++ others) placed
           → All HasItsArgument ((item_calls w ++ calls_in items) ++ others)
-          → CanBePicked is_key w → is_typed (item_kind columns w) ≡ true → IsPick place k w p
+          → CanBePicked is_key w → is_typed (item_typing columns w) ≡ true → IsPick place k w p
           → ArePicks place (k + length (item_calls w)) items picks
           → All (MeansOne columns) (item_columns w)
           → ((front' : List ColumnType) (k' : ℕ) (placed' : List (AggCall ℕ))
@@ -119,7 +119,7 @@ module _ (columns : List FromColumn) (place : ColumnRef → ℕ) (is_key : Colum
           → EachWith Placed (calls_in items ++ others) placed'
           → All HasItsArgument (calls_in items ++ others) → ArePicks place k' items picks
           → kind_types items ≡ map (type_at row) picks)
-          → known_type (item_kind columns w) ∷ kind_types items
+          → known_type (item_typing columns w) ∷ kind_types items
           ≡ type_at row p ∷ map (type_at row) picks
       go (kind.Plain (expr.Column c)) placed e calls has can t is are one more =
           search (arith, column-type, All-head, type_at)
@@ -129,7 +129,7 @@ module _ (columns : List FromColumn) (place : ColumnRef → ℕ) (is_key : Colum
       go (kind.Agg call) (a ∷ placed) e calls has can t is are one more =
           let type : ColumnType = call_type a.op a.arg (types_of columns) in
           ap₂ (λ a b. a ∷ b)
-          (known-call type (agg_kind columns call.op call.arg)
+          (known-call type (agg_typing columns call.op call.arg)
           (call_is_of_kind columns call a (All-head HasItsArgument call _ has) calls.0).type t
           ∙ sym (ap₂ type_at e is
           ∙ get_or_at front type (calls_types placed) column.Text k n))

@@ -1,5 +1,5 @@
 -- The rows that boxes count are those that were pulled at their inputs.
-use Rattle.plan_ends.proofs.Prelude.{Bool, List, [], ap, arith, cond, false, get_or, inl, inr, length, length-append, map, refl, suc, true, zero, ℕ, ◌+◌, ◌<◌, ◌∙◌, ◌∷◌, ◌≡◌, ◌≤◌, ◌⊎◌, BoxPicture, DraftNode, Files, Kind, Lists, NodePort, Spec, Stream, all_rows, box_at, first_rows, is_of, kind_of, ports_of, pulled_rows, rows_of, same_kind, total_rows, HasFullCount, HasPulled, IsKept, in_stream, pulled_since}
+use Rattle.plan_ends.proofs.Imports.{Bool, List, [], ap, arith, cond, false, get_or, inl, inr, length, length-append, map, refl, suc, true, zero, ℕ, ◌+◌, ◌<◌, ◌∙◌, ◌∷◌, ◌≡◌, ◌≤◌, ◌⊎◌, BoxPicture, DraftNode, Files, Kind, Lists, NodePort, Spec, Stream, rows_together, box_at, first_rows, is_of, kind_of, ports_of, pulled_rows, stream_rows, same_kind, total_rows, HasFullCount, HasPulled, KeepsContract, in_stream, pulled_since}
 use Rattle.plan_ends.proofs.ResizeLaws.{all-ports, at_ports}
 
 -- the rows of the first lists, counted
@@ -9,8 +9,8 @@ total-first zero lists = refl
 total-first (suc n) lists = search (arith, length-append, total-first n lists)
 
 pub kept-counted : (s : Spec) (files : Files) (takes gives : ℕ) (p : BoxPicture) (ins outs : Lists)
-    → IsKept s files takes gives p ins outs → (n : ℕ)
-    → HasPulled p (length (all_rows (rows_of (at_ports (in_stream p ins) n 0 takes))))
+    → KeepsContract s files takes gives p ins outs → (n : ℕ)
+    → HasPulled p (length (rows_together (stream_rows (at_ports (in_stream p ins) n 0 takes))))
 kept-counted s files takes gives p ins outs k n = search (arith, total-first, all-ports)
 
 none-since : (k : Kind) (boxes : List BoxPicture)
@@ -30,7 +30,7 @@ pub since-pulled : (k : Kind) (f : NodePort → Stream) (n : ℕ) (nodes : List 
     → ((i : ℕ) (z : DraftNode) → i < length nodes → get_or nodes i z ≡ z
     → ((box_at boxes i).kind ≡ kind_of z.spec) × (same_kind (kind_of z.spec) k ≡ true
     → HasPulled (box_at boxes i)
-    (length (all_rows (rows_of (map f (ports_of (n + i) 0 z.takes)))))))
+    (length (rows_together (stream_rows (map f (ports_of (n + i) 0 z.takes)))))))
     → (pulled_since k boxes ≡ pulled_rows k n nodes f) ⊎ HasFullCount k boxes
 unfolding box_at
 since-pulled k f n (z ∷ nodes) (p ∷ boxes) e other each =
@@ -47,7 +47,7 @@ since-pulled k f n (z ∷ nodes) (p ∷ boxes) e other each =
     kinds = (each 0 z (omega arith) refl).0
 
     rows_at : ℕ → ℕ
-    rows_at m = length (all_rows (rows_of (map f (ports_of m 0 z.takes))))
+    rows_at m = length (rows_together (stream_rows (map f (ports_of m 0 z.takes))))
 
     more : HasFullCount k boxes → HasFullCount k (p ∷ boxes)
     more there = let lt = there.in_range in record {

@@ -1,5 +1,5 @@
 -- Along each wire of an ended run what was pulled is the first of what was pushed.
-use Rattle.plan_ends.proofs.Prelude.{Bool, List, arith, false, get_or, length, length-append, not, subst, sym, true, ℕ, ◌&&◌, ◌++◌, ◌<◌, ◌∙◌, ◌||◌, ◌≡◌, AllPull, BoxPicture, IsBorn, IsDone, Pulls, Wire, both_ways, box_at, consumer_of, false_from_ne_true, flat_map-append, get_or_append_left, get_or_default, map-append, no_wire, not-true, output_count, producer_of, wire_at, pulled_at, pushed_at}
+use Rattle.plan_ends.proofs.Imports.{Bool, List, arith, false, get_or, length, length-append, not, subst, sym, true, ℕ, ◌&&◌, ◌++◌, ◌<◌, ◌∙◌, ◌||◌, ◌≡◌, AllPull, BoxPicture, IsBorn, IsDone, Pulls, Wire, both_ways, box_at, consumer_of, false_from_ne_true, flat_map-append, get_or_append_left, get_or_default, map-append, no_wire, not-true, output_count, producer_of, wire_at, stream_pulled_at, stream_pushed_at}
 
 by-itself : (out ins : Bool) → (out || ins) ≡ true → ins ≡ false → (out && not ins) ≡ true
 by-itself out ins h e = grind (arith, both_ways)
@@ -15,21 +15,21 @@ pub record IsWireOf (wires : List Wire) (boxes : List BoxPicture) (w : Wire) : T
 
 pub wire-pulls : (wires : List Wire) (boxes : List BoxPicture) (d : IsDone wires boxes) (e : ℕ)
     → e < length wires → IsWireOf wires boxes (wire_at wires e)
-    → Pulls (pulled_at boxes d.pulled (consumer_of (wire_at wires e)))
-    (pushed_at boxes d.pushed (producer_of (wire_at wires e)))
+    → Pulls (stream_pulled_at boxes d.pulled (consumer_of (wire_at wires e)))
+    (stream_pushed_at boxes d.pushed (producer_of (wire_at wires e)))
 wire-pulls wires boxes d e lt is =
     grind (arith, map-append, flat_map-append, by-itself, false_from_ne_true, both_ways, not-true)
 
 pub all-pull : (wires more : List Wire) (boxes : List BoxPicture)
     (d : IsDone (wires ++ more) boxes)
     → ((e : ℕ) → e < length wires → IsWireOf (wires ++ more) boxes (wire_at wires e))
-    → AllPull (pulled_at boxes d.pulled) (pushed_at boxes d.pushed) wires
+    → AllPull (stream_pulled_at boxes d.pulled) (stream_pushed_at boxes d.pushed) wires
 unfolding wire_at
 all-pull wires more boxes d are e w lt =
     let all : e < length (wires ++ more) = omega (arith, lt, length-append wires more) in
     let same : wire_at (wires ++ more) e ≡ wire_at wires e = grind (arith, get_or_append_left) in
     let here : wire_at wires e ≡ get_or wires e w = get_or_default wires e no_wire w lt in
-    subst (λ v. Pulls (pulled_at boxes d.pulled (consumer_of v))
-    (pushed_at boxes d.pushed (producer_of v))) (same ∙ here)
+    subst (λ v. Pulls (stream_pulled_at boxes d.pulled (consumer_of v))
+    (stream_pushed_at boxes d.pushed (producer_of v))) (same ∙ here)
     (wire-pulls (wires ++ more) boxes d e all
     (subst (IsWireOf (wires ++ more) boxes) (sym same) (are e lt)))

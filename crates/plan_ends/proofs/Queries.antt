@@ -1,6 +1,6 @@
 -- At the end of a run of a query's plan the collector has an answer of the query, and its boxes
 -- pulled their flow.
-use Rattle.plan_ends.proofs.Prelude.{Bool, IfSome, List, None, Option, Some, [], ap, arith, cond, flat_map, length, refl, slice_get, subst, suc, sym, true, ℕ, ◌+◌, ◌<◌, ◌∙◌, ◌∷◌, ◌≡◌, ◌⊎◌, All, AllByRecursion, AllTyped, AreKeyPairs, BoxPicture, Checked, CheckedJoin, ColumnType, Database, Declared, DraftNode, Files, HasCalls, IsAnswer, IsCut, IsPlan, IsPlanOf, IsSmall, IsSource, IsTypedFilter, IsTypedShape, JoinsSources, Kind, ListFile, NodePort, Numbers, OneType, PartSpec, Parts, PartsDecl, Paths, Reading, SelectPlan, SortKey, Spec, Stream, Table, TableDecl, TableUse, append-nil, boxes_for, chunk_rows, counted, database, declared_sources, declared_table, flow, forms, get_or-map, get_or_past, join_of, join_pulls, join_spec, joined_table, length-map, none-of, of_kind, order_of, output_rows, part_paths, part_rows, part_sources, part_spec, path_sources, plan-needs, plan_keys, plan_nodes, plan_rows, plan_valid, plans-answer, pulled_rows, query-answers, read_rows, reading_of, rows_joined, same_kind, select_plan, shape-selects, shape_of, slice_get_cases, source_types, sources_rows, sum_by-cons, table_sources, types_declared, used_table, used_types, HasEnded, part_of, parts_of, pulled_at, pushed_at}
+use Rattle.plan_ends.proofs.Imports.{Bool, IfSome, List, None, Option, Some, [], ap, arith, cond, flat_map, length, refl, slice_get, subst, suc, sym, true, ℕ, ◌+◌, ◌<◌, ◌∙◌, ◌∷◌, ◌≡◌, ◌⊎◌, All, AllByRecursion, AllTyped, AreKeyPairs, BoxPicture, Checked, CheckedJoin, ColumnType, Database, Declared, DraftNode, Files, HasCalls, IsAnswer, IsCut, IsPlan, IsPlanOf, IsSmall, IsSourceSpec, IsTypedFilter, IsTypedShape, JoinsSources, Kind, ListFile, NodePort, Numbers, OneType, PartSpec, RowsOfSources, PartsDecl, Paths, SourceReading, SelectPlan, SortKey, Spec, Stream, Table, TableDecl, TableUse, append-nil, boxes_for, chunk_rows, count_over, database, declared_sources, declared_table, flow, forms, get_or-map, get_or_past, join_of, join_pulls, join_spec, joined_table, length-map, none-of, of_kind, order_of, output_rows, part_paths, part_rows, part_sources, part_spec, path_sources, plan-needs, plan_keys, plan_nodes, plan_rows, plan_valid, plans-answer, pulled_rows, query-answers, read_rows, table_reading, rows_joined, same_kind, select_plan, shape-selects, shape_of, slice_get_cases, source_types, sources_rows, sum_by-cons, table_sources, types_declared, used_table, used_types, HasEnded, part_of, sources_of_files, stream_pulled_at, stream_pushed_at}
 use Rattle.query_model.specs.declared.processor_spec.Kind.TheVariants as kind
 use Rattle.query_model.specs.declared.processor_spec.Spec.TheVariants as spec
 use Rattle.plan_ends.proofs.Answers.{plan-run, PlanRun}
@@ -27,37 +27,38 @@ pub types-used : (header : Bool) (files : Files) (tables : List TableDecl) (u : 
     → used_types tables u ≡ (used_table (database header files tables) u).types
 types-used header files tables u = grind (arith, table-at)
 
-module _ (files : Files) (parts : Parts)
+module _ (files : Files) (parts : RowsOfSources)
     (same : (part : PartSpec) → parts (spec.Csv part) ≡ part_of files part) where
-  paths-rows : (r : Reading) (k : ℕ) (paths : List (List ℕ))
+  paths-rows : (r : SourceReading) (k : ℕ) (paths : List (List ℕ))
       → sources_rows parts (path_sources r k paths)
       ≡ flat_map (part_rows r.header r.types files) paths
   paths-rows r k [] = refl
   paths-rows r k (path ∷ paths) = grind (arith, paths-rows r (suc k) paths)
 
 -- the rows of a declaration's parts, or of the parts that its list names
-declared-rows : (files : Files) (r : Reading) (d : PartsDecl)
-    → sources_rows (parts_of files) (part_sources r d)
+declared-rows : (files : Files) (r : SourceReading) (d : PartsDecl)
+    → sources_rows (sources_of_files files) (part_sources r d)
     ≡ flat_map (part_rows r.header r.types files) (part_paths files d)
-declared-rows files r (Paths paths) = paths-rows files (parts_of files) (λ part. refl) r 1 paths
+declared-rows files r (Paths paths) =
+    paths-rows files (sources_of_files files) (λ part. refl) r 1 paths
 declared-rows files r (ListFile path) = search (arith, append-nil, paths-rows)
 
 -- the rows of a used table are those of its sources
 pub rows-used : (header : Bool) (files : Files) (tables : List TableDecl) (rows : ℕ) (u : TableUse)
-    → sources_rows (parts_of files) (table_sources tables header rows u)
+    → sources_rows (sources_of_files files) (table_sources tables header rows u)
     ≡ (used_table (database header files tables) u).rows
 rows-used header files tables rows (Declared t) =
     go (slice_get tables t) ∙ ap (λ (z : Table). z.rows) (sym (table-at header files tables t))
   where
-    go : (o : Option TableDecl) → sources_rows (parts_of files) (declared_sources header rows t o)
-        ≡ (table_in header files o).rows
+    go : (o : Option TableDecl) → sources_rows (sources_of_files files)
+        (declared_sources header rows t o) ≡ (table_in header files o).rows
     go None = refl
-    go (Some decl) = declared-rows files (reading_of header rows t decl) decl.parts
+    go (Some decl) = declared-rows files (table_reading header rows t decl) decl.parts
 rows-used header files tables rows (Numbers n) = append-nil _
 
 -- ---- sources
 
-paths-sources : (P : Spec → Type 0) (r : Reading)
+paths-sources : (P : Spec → Type 0) (r : SourceReading)
     → ((k : ℕ) (path : List ℕ) → P (spec.Csv (part_spec r k path)))
     → (k : ℕ) (paths : List (List ℕ)) → AllByRecursion P (path_sources r k paths)
 paths-sources P r h k [] = tt
@@ -75,7 +76,7 @@ pub each-source : (P : Spec → Type 0) (tables : List TableDecl) (header : Bool
     → AllByRecursion P (table_sources tables header rows u)
 each-source P tables header rows (Declared t) file num = go (slice_get tables t) file
   where
-    of-parts : (r : Reading) (d : PartsDecl)
+    of-parts : (r : SourceReading) (d : PartsDecl)
         → ((part : PartSpec) → part.types ≡ r.types → OfBoth P part)
         → AllByRecursion P (part_sources r d)
     of-parts r (Paths paths) file =
@@ -86,7 +87,7 @@ each-source P tables header rows (Declared t) file num = go (slice_get tables t)
         → ((part : PartSpec) → part.types ≡ types_declared o → OfBoth P part)
         → AllByRecursion P (declared_sources header rows t o)
     go None file = tt
-    go (Some decl) file = of-parts (reading_of header rows t decl) decl.parts file
+    go (Some decl) file = of-parts (table_reading header rows t decl) decl.parts file
 each-source P tables header rows (Numbers n) file num = (num n refl, tt)
 
 -- ---- the plan of a query
@@ -108,20 +109,20 @@ module _ (q : Checked) (tables : List TableDecl) (lanes rows : ℕ) (header : Bo
     types-read None = types-used header files tables q.from
     types-read (Some j) = search (arith, types-used)
 
-    rows-read : (j : Option CheckedJoin) → read_rows (parts_of files) sources
+    rows-read : (j : Option CheckedJoin) → read_rows (sources_of_files files) sources
         (join_of tables header rows q.from j) ≡ (joined_table j db left).rows
     rows-read None = rows-used header files tables rows q.from
     rows-read (Some j) = search (arith, rows-used)
 
     -- a join pulls the rows of both tables
     join-pulled : (k : Kind) (j : Option CheckedJoin)
-        → join_pulls k (parts_of files) sources (join_of tables header rows q.from j)
+        → join_pulls k (sources_of_files files) sources (join_of tables header rows q.from j)
         ≡ cond (same_kind kind.HashJoin k) (rows_joined j db left.rows) 0
     join-pulled k None = sym (none-of (same_kind kind.HashJoin k))
     join-pulled k (Some j) = search (arith, rows-used)
 
     plan-of : HasCalls q.shape
-        → IsPlanOf q db (parts_of files) (select_plan q tables lanes rows header)
+        → IsPlanOf q db (sources_of_files files) (select_plan q tables lanes rows header)
     plan-of calls = search (arith, types-read, kept, rows-read)
       where
         kept : (keys : List SortKey) → plan_keys (order_of q.types rows keys) ≡ keys
@@ -130,7 +131,7 @@ module _ (q : Checked) (tables : List TableDecl) (lanes rows : ℕ) (header : Bo
 
 -- nothing that is kept for a list is a collector
 none-kept : (nodes : List DraftNode)
-    → counted (boxes_for kind.Collect) nodes ≡ counted (of_kind kind.Collect) nodes
+    → count_over (boxes_for kind.Collect) nodes ≡ count_over (of_kind kind.Collect) nodes
 none-kept [] = refl
 none-kept (z ∷ nodes) = grind (arith, sum_by-cons, boxes_for, none-of, none-kept nodes)
 
@@ -159,8 +160,8 @@ query-plan q tables lanes rows header typed some =
           (typed.made ∙ ap (shape_types q.shape) read) typed.keys);
     }
   where
-    are-sources : (t : TableUse) → AllByRecursion IsSource (table_sources tables header rows t)
-    are-sources t = each-source IsSource tables header rows t (λ part t. (tt, tt)) (λ n t. tt)
+    are-sources : (t : TableUse) → AllByRecursion IsSourceSpec (table_sources tables header rows t)
+    are-sources t = each-source IsSourceSpec tables header rows t (λ part t. (tt, tt)) (λ n t. tt)
 
     of-types : (t : TableUse) → AllByRecursion (λ s. OneType s [] (used_types tables t))
         (table_sources tables header rows t)
@@ -200,14 +201,16 @@ pub record QueryAnswered (q : Checked) (header : Bool) (files : Files) (tables :
     (plan : SelectPlan) (nodes : List DraftNode) (boxes : List BoxPicture)
     (h : HasEnded files nodes boxes) (last : ℕ) : Type 0 where
   pub answer : IsAnswer q (database header files tables) (chunk_rows (h.done.pulled last 0))
-  pub output : plan_rows (parts_of files) plan ≡ output_rows q (database header files tables)
-  pub valid : (plan_valid (parts_of files) plan ≡ true) ⊎ IsCut (parts_of files) plan
+  pub output : plan_rows (sources_of_files files) plan
+      ≡ output_rows q (database header files tables)
+  pub valid : (plan_valid (sources_of_files files) plan ≡ true)
+      ⊎ IsCut (sources_of_files files) plan
   pub run : PlanRun files plan nodes boxes h last
-  pub collected : pulled_rows kind.Collect 0 nodes (pulled_at boxes h.done.pulled)
+  pub collected : pulled_rows kind.Collect 0 nodes (stream_pulled_at boxes h.done.pulled)
       ≡ length (chunk_rows (h.done.pulled last 0))
   pub pulled : q.limit ≡ None → (k : Kind)
       → IfSome (flow k q (database header files tables) (chunk_rows (h.done.pulled last 0)))
-      (λ n. pulled_rows k 0 nodes (pulled_at boxes h.done.pulled) ≡ n)
+      (λ n. pulled_rows k 0 nodes (stream_pulled_at boxes h.done.pulled) ≡ n)
 
 -- At the end of a run of the plan of a typed query, by lawful boxes loaded with copies of its
 -- nodes' specs, the collector has pulled an answer of the query.
@@ -222,28 +225,30 @@ pub planned-ended : (q : Checked) (tables : List TableDecl) (lanes rows : ℕ) (
 planned-ended q tables lanes rows header files nodes boxes h last typed some small e count =
     let plan : SelectPlan = select_plan q tables lanes rows header in
     let db : Database = database header files tables in
-    let is : IsPlanOf q db (parts_of files) plan =
+    let is : IsPlanOf q db (sources_of_files files) plan =
     plan-of q tables lanes rows header files
     (has-calls (source_types tables q.from q.join) q.shape typed.typed.items) in
     let ready : IsQueryPlan plan = query-plan q tables lanes rows header typed some in
-    let f : NodePort → Stream = pulled_at boxes h.done.pulled in
+    let f : NodePort → Stream = stream_pulled_at boxes h.done.pulled in
     let r = plan-run files plan nodes boxes h last small e ready.typed (plan-ready plan nodes
     ready.is e) count in
-    let a = plans-answer (parts_of files) plan f (pushed_at boxes h.done.pushed) ready.is small
+    let a = plans-answer (sources_of_files files) plan f (stream_pushed_at boxes h.done.pushed)
+    ready.is small
     r.run last count r.collected.done in
-    let flowed : HasFlowed plan (parts_of files) nodes f last = record {
+    let flowed : HasFlowed plan (sources_of_files files) nodes f last = record {
       same = e;
       count = count;
       one_collector = search (arith, none-kept, plan-needs);
       pulled = λ k unlimited told. a.1 unlimited k told;
     } in
     record {
-      answer = query-answers q db (parts_of files) plan (chunk_rows (h.done.pulled last 0)) is a.0;
+      answer = query-answers q db (sources_of_files files) plan (chunk_rows (h.done.pulled last 0))
+          is a.0;
       output = grind (arith, shape-selects);
       valid = a.0.valid;
       run = r;
-      collected = collector-pulled plan (parts_of files) nodes f last flowed;
-      pulled = λ unlimited k. flow-pulled plan (parts_of files) nodes f last flowed
+      collected = collector-pulled plan (sources_of_files files) nodes f last flowed;
+      pulled = λ unlimited k. flow-pulled plan (sources_of_files files) nodes f last flowed
           unlimited q db is (λ k. join-pulled q tables lanes rows header files k q.join) q.types
           rows refl k;
     }

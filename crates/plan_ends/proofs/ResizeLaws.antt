@@ -1,5 +1,5 @@
 -- What a resize keeps is what it gives: the rows of any inputs by any outputs.
-use Rattle.plan_ends.proofs.Prelude.{IsPermutation, List, Some, [], ap, append_assoc, arith, false, inl, inr, map, refl, subst, suc, sym, true, zero, ℕ, ◌++◌, ◌+◌, ◌-◌, ◌<◌, ◌∙◌, ◌≡◌, ◌≤◌, AllByRecursion, AreResized, BoxPicture, Files, GivesResized, HasReadEnough, IsOver, IsPermutation-append_left, IsPermutation-refl, IsPermutation-trans, KeepsMade, Lists, MakesType, NodePort, Row, Spec, Stream, Table, Types, all_done, all_rows, and_from, and_parts, any_done, append-nil, both_ways, chunk_rows, first_rows, flat_map-append, length-map, or_cases, paired, ports-length, ports_of, pulled_types, rows_of, unworked_at, IsKept, KindGives, in_stream, out_stream}
+use Rattle.plan_ends.proofs.Imports.{IsPermutation, List, Some, [], ap, append_assoc, arith, false, inl, inr, map, refl, subst, suc, sym, true, zero, ℕ, ◌++◌, ◌+◌, ◌-◌, ◌<◌, ◌∙◌, ◌≡◌, ◌≤◌, AllByRecursion, AreResized, BoxPicture, Files, GivesResized, HasReadEnough, IsOver, IsPermutation-append_left, IsPermutation-refl, IsPermutation-trans, KeepsMade, Lists, MakesType, NodePort, Row, Spec, Stream, Table, Types, all_done, rows_together, and_from, and_parts, any_done, append-nil, both_ways, chunk_rows, first_rows, flat_map-append, length-map, or_cases, pairs_of_appends, ports-length, ports_of, pulled_types, stream_rows, unworked_at, KeepsContract, KindGives, in_stream, out_stream}
 use Rattle.query_model.specs.declared.processor_spec.Spec.TheVariants as spec
 use Rattle.plan_ends.proofs.KindLaws.{all-worked-at, is-among, kept-rows, made-typed, stays-open}
 
@@ -11,7 +11,8 @@ at_ports f n i k = map (λ (q : NodePort). f q.port) (ports_of n i k)
 -- the rows of the first ports, and of so many after them
 ports-rows : (lists : Lists) (f : ℕ → Stream) → ((i : ℕ) → (f i).rows ≡ chunk_rows (lists i))
     → (n i k : ℕ)
-    → first_rows i lists ++ all_rows (rows_of (at_ports f n i k)) ≡ first_rows (i + k) lists
+    → first_rows i lists ++ rows_together (stream_rows (at_ports f n i k))
+    ≡ first_rows (i + k) lists
 unfolding first_rows
 ports-rows lists f e n i zero = search (arith, append-nil)
 ports-rows lists f e n i (suc k) = grind (arith, append_assoc, ports-rows lists f e n (suc i) k)
@@ -30,7 +31,7 @@ none-past lists m (suc k) past =
 -- the rows at the ports of a node are those of all lists
 pub all-ports : (lists : Lists) (f : ℕ → Stream) → ((i : ℕ) → (f i).rows ≡ chunk_rows (lists i))
     → (n m most : ℕ) → m ≤ most → ((i : ℕ) → m ≤ i → lists i ≡ [])
-    → all_rows (rows_of (at_ports f n 0 m)) ≡ first_rows most lists
+    → rows_together (stream_rows (at_ports f n 0 m)) ≡ first_rows most lists
 unfolding first_rows
 all-ports lists f e n m most le past =
     grind (arith, ports-rows lists f e n 0 m, none-past lists m (most - m) past)
@@ -70,7 +71,7 @@ split-rows (suc n) whole a b e =
     let here : chunk_rows (whole n) ≡ chunk_rows (a n) ++ chunk_rows (b n) =
     ap chunk_rows (e n) ∙ flat_map-append (λ (t : Table). t.rows) (a n) (b n) in
     rw here (IsPermutation-trans _ _ _ (IsPermutation-append_left (chunk_rows (a n) ++ chunk_rows
-    (b n)) _ _ (split-rows n whole a b e)) (paired (first_rows n a) (first_rows n b)
+    (b n)) _ _ (split-rows n whole a b e)) (pairs_of_appends (first_rows n a) (first_rows n b)
     (chunk_rows (a n)) (chunk_rows (b n))))
 
 -- ---- what passes rows on as they are
@@ -81,16 +82,18 @@ waiting p wait = wait ++ first_rows 32 (unworked_at p.work)
 
 -- A box that passes rows on as they are gives the rows of its inputs by its outputs; some wait.
 pub gives-resized : {s : Spec} {files : Files} {takes gives : ℕ} {p : BoxPicture}
-    {ins outs : Lists} → IsKept s files takes gives p ins outs → (n : ℕ) (wait : List Row)
+    {ins outs : Lists} → KeepsContract s files takes gives p ins outs → (n : ℕ) (wait : List Row)
     → 0 < gives → (HasReadEnough (Some s) ins → ⊥) → (m : KeepsMade s p ins outs)
     → AreResized m.worked outs wait → (IsOver s p.work → wait ≡ [])
     → GivesResized (at_ports (in_stream p ins) n 0 takes) (at_ports (out_stream p outs) n 0 gives)
 unfolding first_rows
 gives-resized {takes = takes} {gives} {p} {ins} {outs} k n wait some unlimited m resized over =
     let left : List Row = first_rows 32 (unworked_at p.work) in
-    let i_rows : all_rows (rows_of (at_ports (in_stream p ins) n 0 takes)) ≡ first_rows 32 ins =
+    let i_rows : rows_together (stream_rows (at_ports (in_stream p ins) n 0 takes))
+    ≡ first_rows 32 ins =
     all-ports ins (in_stream p ins) (λ i. refl) n takes 32 k.few_inputs k.nothing_past in
-    let o_rows : all_rows (rows_of (at_ports (out_stream p outs) n 0 gives)) ≡ first_rows 16 outs =
+    let o_rows : rows_together (stream_rows (at_ports (out_stream p outs) n 0 gives))
+    ≡ first_rows 16 outs =
     all-ports outs (out_stream p outs) (λ i. refl) n gives 16 k.few_outputs k.nothing_pushed_past in
     let rows : IsPermutation (first_rows 32 ins) (first_rows 16 outs ++ waiting p wait) =
     IsPermutation-trans _ _ _ (split-rows 32 ins m.worked (unworked_at p.work) m.ins_are)

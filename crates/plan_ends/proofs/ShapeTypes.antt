@@ -1,5 +1,5 @@
 -- The types of the rows that a query's shape makes, and of the columns and arguments of its groups.
-use Rattle.plan_ends.proofs.Prelude.{List, None, Option, Some, [], ap, length, map, refl, slice_index_or, ℕ, ◌<◌, ◌∷◌, ◌≡◌, AggCall, AggOp, All, All-cons, All-head, All-nil, All-tail, AllByRecursion, ColumnType, Expr, Grouped, HasCalls, IsCall, IsItem, IsTypedArgument, IsTypedCall, IsTypedShape, Plain, Shape, argument_types, call_arguments, columns_of, group_row_types, state_of, type_of}
+use Rattle.plan_ends.proofs.Imports.{List, None, Option, Some, [], ap, length, map, refl, slice_index_or, ℕ, ◌<◌, ◌∷◌, ◌≡◌, AggCall, AggOp, All, All-cons, All-head, All-nil, All-tail, AllByRecursion, ColumnType, Expr, Grouped, HasCalls, IsCall, IsItem, IsTypedArgument, IsTypedCall, IsTypedShape, Plain, Shape, argument_types, call_arguments, column_items, group_row_types, state_call, type_of}
 use Rattle.chunk_data.specs.declared.typed_value.ColumnType.TheVariants as column
 use Rattle.query_model.specs.declared.query.AggOp.TheVariants as agg
 use Rattle.query_model.specs.declared.query.ExprOf.TheVariants as expr
@@ -18,7 +18,7 @@ shape_types (Grouped g) types = map (type_at (group_row_types g types)) g.picks
 -- a partial aggregate takes.
 abbrev pub CallsFit : List ColumnType → List (AggCall ℕ) → Type 0
 CallsFit types calls = AllByRecursion IsCall calls × All (IsItem types) (call_arguments calls)
-    × (argument_types (map (state_of types) calls)
+    × (argument_types (map (state_call types) calls)
     ≡ map (λ e. type_of e types) (call_arguments calls))
 
 pub calls-fit : (types : List ColumnType) (calls : List (AggCall ℕ)) → All (IsTypedCall types) calls
@@ -47,7 +47,7 @@ has-calls types (Grouped g) t = (calls-fit types g.calls t.calls).0
 -- ---- columns
 
 pub columns-fit : (types : List ColumnType) (cs : List ℕ) → All (λ c. c < length types) cs
-    → All (IsItem types) (columns_of cs)
+    → All (IsItem types) (column_items cs)
 columns-fit types [] h = All-nil (IsItem types)
 columns-fit types (c ∷ cs) h =
     let P : ℕ → Type 0 = (λ c. c < length types) in
@@ -56,7 +56,7 @@ columns-fit types (c ∷ cs) h =
     (columns-fit types cs (All-tail P c cs h))
 
 pub columns-are : (types : List ColumnType) (cs : List ℕ)
-    → map (type_at types) cs ≡ map (λ e. type_of e types) (columns_of cs)
+    → map (type_at types) cs ≡ map (λ e. type_of e types) (column_items cs)
 unfolding type_of
 columns-are types [] = refl
 columns-are types (c ∷ cs) = ap (λ l. type_at types c ∷ l) (columns-are types cs)

@@ -1,5 +1,5 @@
 -- What a sort and a merge keep is what they give.
-use Rattle.plan_ends.proofs.Prelude.{Bool, IsPermutation, IsSorted, List, Some, [], ap, append_assoc, arith, false, inl, inr, length, length-append, not, refl, subst, suc, sym, true, zero, ℕ, ◌++◌, ◌+◌, ◌<◌, ◌∙◌, ◌∷◌, ◌≡◌, ◌≤◌, All-nil, AllByRecursion, AllFit, AreInputsSorted, AreMerged, BoxPicture, Contains-append_left, FitFrom, FitsInput, FitsOrder, GivesHeld, GivesMerged, HoldsBack, IsBeforeNone, IsPermutation-append_left, IsPermutation-trans, IsReadUp, IsSortOf, KeepsMade, Lists, NotesEnd, Row, SortKey, SortSpec, Spec, Stream, Table, all_rows, and_parts, append-nil, cases_eq, cases_lt, chunk_rows, every-append, every-contains, every-front, every-none, every-turned, every-weaker, first_rows, head_at, head_rows, is_lt, kept_output, kept_outputs, may-be-input, order-cross, order-from_sorted, order-front, own_of, past-open, row_cmp, rows-append, rows-ordered, rows_of, sort-exists, sorted-from_order, unworked_at, IsKept, KindGives, chunk_types, in_stream, out_stream}
+use Rattle.plan_ends.proofs.Imports.{Bool, IsPermutation, IsSorted, List, Some, [], ap, append_assoc, arith, false, inl, inr, length, length-append, not, refl, subst, suc, sym, true, zero, ℕ, ◌++◌, ◌+◌, ◌<◌, ◌∙◌, ◌∷◌, ◌≡◌, ◌≤◌, All-nil, AllByRecursion, AllFit, AreInputsSorted, AreMerged, BoxPicture, Contains-append_left, FitFrom, FitsInput, FitsOrder, GivesHeld, GivesMerged, HoldsBack, IsBeforeNone, IsPermutation-append_left, IsPermutation-trans, IsReadUp, IsSortOf, KeepsMade, Lists, NotesEnd, Row, SortKey, SortSpec, Spec, Stream, Table, rows_together, and_parts, append-nil, cases_eq, cases_lt, chunk_rows, every-append, every-contains, every-front, every-none, every-turned, every-weaker, first_rows, head_at, head_rows, is_lt, kept_output, kept_outputs, may-be-input, order-cross, order-from_sorted, order-front, own_of, past-open, row_cmp, rows-append, rows-ordered, stream_rows, sort-exists, sorted-from_order, unworked_at, KeepsContract, KindGives, chunk_types, in_stream, out_stream}
 use Rattle.query_model.specs.declared.processor_spec.Spec.TheVariants as spec
 use Rattle.plan_ends.proofs.KindLaws.{one-output, all-worked-at, at-ports, front-of, kept-rows, one-fits, stays-open, types-fit}
 use Rattle.plan_ends.proofs.ResizeLaws.{all-done, all-ports, at_ports, each-port, none-past, split-rows}
@@ -14,13 +14,13 @@ back-none (x ∷ xs) ys e = absurd (cc)
 
 -- an input whose end is noted is read up
 pub read-up : {s : Spec} {files : _} {takes gives : ℕ} {p : BoxPicture} {ins outs : Lists}
-    → IsKept s files takes gives p ins outs → (i : ℕ) → i < takes
+    → KeepsContract s files takes gives p ins outs → (i : ℕ) → i < takes
     → NotesEnd (Some s) (own_of p.work) i → IsReadUp p i
 read-up {takes = takes} {p = p} k i lt n = grind (arith, may-be-input p takes i (inr k.inputs) lt)
 
 -- where the ends of all inputs are noted, each is done and worked
 pub all-worked : {s : Spec} {files : _} {takes gives : ℕ} {p : BoxPicture} {ins outs : Lists}
-    → IsKept s files takes gives p ins outs → (m : KeepsMade s p ins outs)
+    → KeepsContract s files takes gives p ins outs → (m : KeepsMade s p ins outs)
     → ((i : ℕ) → NotesEnd (Some s) (own_of p.work) i) → (i : ℕ)
     → ((in_stream p ins i).done ≡ true) × (m.worked i ≡ ins i)
 all-worked {takes = takes} {p = p} k m noted i = elim (cases_lt i takes) [
@@ -70,7 +70,7 @@ sort-gives order files takes gives n p ins outs k =
 
 -- what is true of the rows at each of so many ports
 rows-at : (P : List Row → Type 0) (f : ℕ → Stream) (n i k : ℕ)
-    → AllByRecursion P (rows_of (at_ports f n i k)) → (j : ℕ) → i ≤ j → j < i + k → P (f j).rows
+    → AllByRecursion P (stream_rows (at_ports f n i k)) → (j : ℕ) → i ≤ j → j < i + k → P (f j).rows
 rows-at P f n i zero h j le lt = absurd (omega (arith, le, lt))
 rows-at P f n i (suc k) h j le lt = elim (cases_eq j i) [
   | inl z ↦ subst (λ m. P (f m).rows) (sym z) h.0
@@ -104,7 +104,7 @@ every-list P (suc n) lists h = every-append P (first_rows n lists) (chunk_rows (
     (every-list P n lists (λ i lt. h i (omega (arith, lt)))) (h n (omega arith))
 
 module _ (order : SortSpec) (files : _) (takes : ℕ) (p : BoxPicture) (ins outs : Lists)
-    (k : IsKept (spec.MergeSorted order) files takes 1 p ins outs)
+    (k : KeepsContract (spec.MergeSorted order) files takes 1 p ins outs)
     (m : KeepsMade (spec.MergeSorted order) p ins outs) where
   abbrev keys : List SortKey
   keys = order.keys
@@ -150,7 +150,7 @@ module _ (order : SortSpec) (files : _) (takes : ℕ) (p : BoxPicture) (ins outs
   -- the rows at the ports are in order, and so are those of all inputs
   inputs-sorted : (n : ℕ)
       → AllByRecursion (λ rows. IsSorted (row_cmp keys) rows)
-      (rows_of (at_ports (in_stream p ins) n 0 takes)) → AreInputsSorted keys ins
+      (stream_rows (at_ports (in_stream p ins) n 0 takes)) → AreInputsSorted keys ins
   inputs-sorted n s i = elim (cases_lt i takes) [
     | inl less ↦ rows-at (λ rows. IsSorted (row_cmp keys) rows) (in_stream p ins) n 0 takes s i
         (omega arith) (omega (arith, less))
@@ -229,7 +229,8 @@ module _ (order : SortSpec) (files : _) (takes : ℕ) (p : BoxPicture) (ins outs
   merge-held : (n : ℕ)
       → GivesMerged keys (at_ports (in_stream p ins) n 0 takes) (out_stream p outs 0)
   merge-held n =
-      let rows : all_rows (rows_of (at_ports (in_stream p ins) n 0 takes)) ≡ first_rows 32 ins =
+      let rows : rows_together (stream_rows (at_ports (in_stream p ins) n 0 takes))
+      ≡ first_rows 32 ins =
       all-ports ins (in_stream p ins) (λ i. refl) n takes 32 k.few_inputs k.nothing_past in
       let one : 0 < kept_outputs p = let e = k.outputs in omega (arith, e) in
       let o = rows-ordered keys in

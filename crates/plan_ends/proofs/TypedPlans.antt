@@ -1,7 +1,7 @@
 -- The types that stand at the open ends of a plan. Each block stands before nodes that fit the
 -- types that it leaves.
 use Rattle.std.proofs.lemmas.Grind.{common_steps}
-use Rattle.plan_ends.proofs.Prelude.{IfSome, List, None, Option, Some, [], ap, append_assoc, ap₂, arith, length, length-append, map, refl, replicate, subst, suc, sym, zero, ℕ, ◌++◌, ◌∙◌, ◌∷◌, ◌≡◌, All, All-append, AllByRecursion, AllTyped, AreKeyPairs, Cond, DraftNode, Expr, FitsInput, FitsOrder, GroupSpec, Grouped, IsAmong, IsItem, IsTypedFilter, IsTypedShape, OneType, Plain, PlanJoin, SelectPlan, Shape, SortSpec, Span, Spec, Types, TypesFit, TypesTo, append-nil, body_nodes, call_arguments, collector, columns_of, filter_nodes, gather_nodes, group_row_types, group_spec, group_types, joint_node, lane_nodes, lane_steps, length-replicate, limit_nodes, map-append, map-map, partial_types, passes-type, plan_nodes, read-is, read_nodes, read_steps, replaced-at, run-at, select_steps, shape_nodes, shape_of, sort_nodes, source_nodes, taken_by, type_of, typed-all, typed-append, ⊤}
+use Rattle.plan_ends.proofs.Imports.{IfSome, List, None, Option, Some, [], ap, append_assoc, ap₂, arith, length, length-append, map, refl, replicate, subst, suc, sym, zero, ℕ, ◌++◌, ◌∙◌, ◌∷◌, ◌≡◌, All, All-append, AllByRecursion, AllTyped, AreKeyPairs, Cond, DraftNode, Expr, FitsInput, FitsOrder, GroupSpec, Grouped, IsAmong, IsItem, IsTypedFilter, IsTypedShape, OneType, Plain, PlanJoin, SelectPlan, Shape, SortSpec, Span, Spec, Types, TypesFit, TypesTo, append-nil, body_nodes, call_arguments, collector, column_items, filter_nodes, gather_nodes, group_row_types, group_spec, spec_group_types, joint_node, lane_nodes, lane_steps, length-replicate, limit_nodes, map-append, map-map, partial_types, passes-type, plan_nodes, read-is, read_nodes, read_steps, replaced-at, run-at, select_steps, shape_nodes, shape_of, sort_nodes, source_nodes, taken_by, type_of, typed-all, typed-append, ⊤}
 use Rattle.query_model.specs.declared.processor_spec.Spec.TheVariants as spec
 use Rattle.plan_ends.proofs.ShapeTypes.{calls-fit, columns-are, columns-fit, shape_types, type_at}
 
@@ -135,15 +135,15 @@ module _ (after : List Types) where
       let groups : GroupSpec = group_spec g u rows in
       let v : Types = map (type_at (group_row_types g u)) g.picks in
       let w : Types = group_row_types g u in
-      let same : w ≡ group_types groups = grind (arith, map-map) in
+      let same : w ≡ spec_group_types groups = grind (arith, map-map) in
       let calls = calls-fit u g.calls t.calls in
-      let arguments : List Expr = columns_of g.keys ++ call_arguments g.calls in
+      let arguments : List Expr = column_items g.keys ++ call_arguments g.calls in
       simp append_assoc (lanes-typed _ (spec.Expression arguments) 6 0 k [] u (partial_types groups)
       refl (items-type arguments u (partial_types groups)
-      (All-append (IsItem u) (columns_of g.keys) (call_arguments g.calls)
+      (All-append (IsItem u) (column_items g.keys) (call_arguments g.calls)
       (columns-fit u g.keys t.keys) calls.1)
       (ap₂ (λ a b. a ++ b) (columns-are u g.keys) calls.2
-      ∙ sym (map-append (λ e. type_of e u) (columns_of g.keys) (call_arguments g.calls))))
+      ∙ sym (map-append (λ e. type_of e u) (column_items g.keys) (call_arguments g.calls))))
       (lanes-typed _ (spec.PartialAggregate groups) 7 0 k [] (partial_types groups) w refl
       (record { fit = (refl, tt); makes = λ t us all e. e ∙ sym same })
       (joint-typed _ (spec.MergeAggregate groups) 8 k 1 w w
@@ -152,9 +152,9 @@ module _ (after : List Types) where
         makes = λ t us all e. e ∙ sym same;
       })
       (filter-typed _ w g.having 9 1 t.having
-      (lanes-typed _ (spec.Expression (columns_of g.picks)) 10 0 1 [] w v refl
-      (items-type (columns_of g.picks) w v (columns-fit w g.picks t.picks) (columns-are w g.picks))
-      (sort-typed more order v o rest))))))
+      (lanes-typed _ (spec.Expression (column_items g.picks)) 10 0 1 [] w v refl
+      (items-type (column_items g.picks) w v (columns-fit w g.picks t.picks)
+      (columns-are w g.picks)) (sort-typed more order v o rest))))))
 
   limit-typed : (more : List DraftNode) (v : Types) (l : Option Span) → Typed more (v ∷ [])
       → Typed (limit_nodes l ++ more) (v ∷ [])

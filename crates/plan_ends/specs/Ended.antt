@@ -1,18 +1,19 @@
 -- The streams of a run that has ended.
 use Rattle.exec_laws.specs.Names.{IsDone, box_at}
-use Rattle.plan_meaning.specs.Names.{GivesIf, Part, Parts, Stream, all_valid, sources_rows}
+use Rattle.plan_meaning.specs.Names.{GivesIf, RowsOfSources, SourceRows, Stream, all_valid, sources_rows}
 use Rattle.plan_meaning.specs.Prelude.{DraftNode, NodePort, no_draft, ports_of, with_nodes}
-use Rattle.proc_api.specs.Names.{AreCounts, ArePortsOf, BoxPicture, GrowthForm, IsSourceKind, Keeps, Lists, chunk_rows, input_count, is_of, kept_input, kept_inputs, kept_output, kept_outputs, last_count, output_count}
+use Rattle.proc_api.specs.Names.{ArePortsOf, BoxPicture, GrowthForm, IsSourceKind, Keeps, Lists, chunk_rows, input_count, is_of, kept_input, kept_inputs, kept_output, kept_outputs, last_count, output_count}
 unfoldable use Rattle.proc_api.specs.Names.{wire_at}
 use Rattle.proc_api.specs.Prelude.{ColumnType, Kind, PartSpec, Spec, Table, Wire, kind_of}
+use Rattle.proc_api.specs.SpecContracts.{IsUngrown}
 use Rattle.query_model.specs.Database.{paths_in}
 use Rattle.query_model.specs.ListFiles.{list_bad_line}
 use Rattle.query_model.specs.Names.{Files, UsedPart, bad_line_in, bad_place, file_bytes, good_rows, part_records}
-use Rattle.select_planner.specs.Steps.{Reading, part_spec, path_sources}
+use Rattle.select_planner.specs.Steps.{SourceReading, part_spec, path_sources}
 use Rattle.std.specs.Prelude.{Bool, List, None, Option, Some, [], cond, false, is_none, length, map, not, slice_index_or, suc, true, ℕ, ⊤, ◌&&◌, ◌++◌, ◌+◌, ◌<◌, ◌∷◌, ◌≡◌, ◌≤◌, ◌⊎◌}
 use Rattle.query_model.specs.declared.processor_spec.Spec.TheVariants as spec
 
-abbrev pub part_in : PartSpec → Option (List ℕ) → Part
+abbrev pub part_in : PartSpec → Option (List ℕ) → SourceRows
 part_in part None = record { rows = []; valid = false }
 part_in part (Some bytes) =
     let records = part_records part.header bytes in
@@ -21,16 +22,16 @@ part_in part (Some bytes) =
       valid = is_none (bad_place 1 part.types records);
     }
 
-abbrev pub part_of : Files → PartSpec → Part
+abbrev pub part_of : Files → PartSpec → SourceRows
 part_of files part = part_in part (file_bytes files part.path)
 
 -- the parts of the files, none of which is a list
-abbrev pub paths_of : Files → Parts
-paths_of files (spec.Csv part) = part_of files part
-paths_of files _ = record { rows = []; valid = true }
+abbrev pub parts_of_files : Files → RowsOfSources
+parts_of_files files (spec.Csv part) = part_of files part
+parts_of_files files _ = record { rows = []; valid = true }
 
 -- how the parts of a list are read
-abbrev pub reading_in : PartSpec → Reading
+abbrev pub reading_in : PartSpec → SourceReading
 reading_in list =
     record { table = list.table; types = list.types; header = list.header; rows = list.rows }
 
@@ -43,16 +44,16 @@ is_valid_list None = false
 is_valid_list (Some text) = is_none (list_bad_line text)
 
 -- a list of parts, by the bytes of its own file
-abbrev pub list_in : Files → PartSpec → Option (List ℕ) → Part
+abbrev pub list_in : Files → PartSpec → Option (List ℕ) → SourceRows
 list_in files list text = record {
-  rows = sources_rows (paths_of files) (listed_sources list text);
-  valid = is_valid_list text && all_valid (paths_of files) (listed_sources list text);
+  rows = sources_rows (parts_of_files files) (listed_sources list text);
+  valid = is_valid_list text && all_valid (parts_of_files files) (listed_sources list text);
 }
 
 -- the parts and the lists of parts of the files
-abbrev pub parts_of : Files → Parts
-parts_of files (spec.List list) = list_in files list (file_bytes files list.path)
-parts_of files s = paths_of files s
+abbrev pub sources_of_files : Files → RowsOfSources
+sources_of_files files (spec.List list) = list_in files list (file_bytes files list.path)
+sources_of_files files s = parts_of_files files s
 
 abbrev pub chunk_types : List Table → List (List ColumnType)
 chunk_types chunks = map (λ (t : Table). t.types) chunks
@@ -73,11 +74,11 @@ out_stream p outs o = record {
   types = chunk_types (outs o);
 }
 
-abbrev pub pulled_at : List BoxPicture → (ℕ → Lists) → NodePort → Stream
-pulled_at boxes pulled p = in_stream (box_at boxes p.node) (pulled p.node) p.port
+abbrev pub stream_pulled_at : List BoxPicture → (ℕ → Lists) → NodePort → Stream
+stream_pulled_at boxes pulled p = in_stream (box_at boxes p.node) (pulled p.node) p.port
 
-abbrev pub pushed_at : List BoxPicture → (ℕ → Lists) → NodePort → Stream
-pushed_at boxes pushed p = out_stream (box_at boxes p.node) (pushed p.node) p.port
+abbrev pub stream_pushed_at : List BoxPicture → (ℕ → Lists) → NodePort → Stream
+stream_pushed_at boxes pushed p = out_stream (box_at boxes p.node) (pushed p.node) p.port
 
 -- nothing is in the list of a port past the last one
 abbrev pub NothingPast : ℕ → Lists → Type 0
@@ -85,7 +86,8 @@ NothingPast ports lists = (i : ℕ) → ports ≤ i → lists i ≡ []
 
 -- A box with the ports of its spec, which keeps its contract of these lists. A source tells these
 -- files.
-pub record IsKept (s : Spec) (files : Files) (takes gives : ℕ) (p : BoxPicture) (ins outs : Lists)
+pub record KeepsContract (s : Spec) (files : Files) (takes gives : ℕ) (p : BoxPicture)
+    (ins outs : Lists)
     : Type 0 where
   pub loaded : p.spec ≡ Some s
   pub told : IsSourceKind (kind_of s) → p.files ≡ Some files
@@ -101,13 +103,14 @@ pub record IsKept (s : Spec) (files : Files) (takes gives : ℕ) (p : BoxPicture
 -- the promises of kind s hold of the streams at the ports of node n
 abbrev pub BoxGives : Spec → Files → (takes gives n : ℕ) → BoxPicture → (ins outs : Lists) → Type 0
 BoxGives s files takes gives n p ins outs =
-    GivesIf (parts_of files) s (map (λ (q : NodePort). in_stream p ins q.port) (ports_of n 0 takes))
+    GivesIf (sources_of_files files) s
+    (map (λ (q : NodePort). in_stream p ins q.port) (ports_of n 0 takes))
     (map (λ (q : NodePort). out_stream p outs q.port) (ports_of n 0 gives))
 
 -- Of each such box the lists are streams for which the kind's promises hold.
 abbrev pub KindGives : Spec → Type 0
 KindGives s = (files : Files) (takes gives n : ℕ) (p : BoxPicture) (ins outs : Lists)
-    → IsKept s files takes gives p ins outs → BoxGives s files takes gives n p ins outs
+    → KeepsContract s files takes gives p ins outs → BoxGives s files takes gives n p ins outs
 
 -- the count of pulled rows of a box rose by so many since `load`, or stands at its last value
 abbrev pub HasPulled : BoxPicture → ℕ → Type 0
@@ -124,11 +127,6 @@ pub record HasFullCount (k : Kind) (boxes : List BoxPicture) : Type 0 where
 abbrev pub pulled_since : Kind → List BoxPicture → ℕ
 pulled_since k [] = 0
 pulled_since k (p ∷ boxes) = cond (is_of k p) p.notes.pulled 0 + pulled_since k boxes
-
--- the kinds whose nodes have in every run the ports that the plan gives them
-abbrev pub IsUngrown : Spec → Type 0
-IsUngrown (spec.List list) = ⊥
-IsUngrown _ = ⊤
 
 -- a node with the ports of its spec, of whose kind the processor contract gives the promises
 pub record IsOrdinary (n : DraftNode) : Type 0 where
@@ -148,19 +146,7 @@ IsReady n = IsOrdinary n ⊎ IsListNode n
 
 -- ports of a kind whose promises the processor contract gives by the proofs of this crate
 abbrev pub KnownPorts : Spec → (takes gives : ℕ) → Type 0
-KnownPorts (spec.Csv part) takes gives = AreCounts takes gives 0 1
-KnownPorts (spec.List list) takes gives = AreCounts takes gives 0 1
-KnownPorts (spec.Numbers count rows) takes gives = AreCounts takes gives 0 1
-KnownPorts (spec.Filter c) takes gives = AreCounts takes gives 1 1
-KnownPorts (spec.Expression items) takes gives = AreCounts takes gives 1 1
-KnownPorts spec.Resize takes gives = 0 < gives
-KnownPorts (spec.Limit span) takes gives = AreCounts takes gives 1 1
-KnownPorts (spec.PartialAggregate groups) takes gives = AreCounts takes gives 1 1
-KnownPorts (spec.MergeAggregate groups) takes gives = gives ≡ 1
-KnownPorts (spec.Sort order) takes gives = AreCounts takes gives 1 1
-KnownPorts (spec.MergeSorted order) takes gives = gives ≡ 1
-KnownPorts (spec.HashJoin join) takes gives = AreCounts takes gives 2 1
-KnownPorts spec.Collect takes gives = AreCounts takes gives 1 0
+KnownPorts s takes gives = ArePortsOf (Some s) None takes gives
 
 -- a part or a list that a source is loaded with, as queries use parts
 abbrev pub used_part : PartSpec → UsedPart
@@ -204,7 +190,7 @@ pub record HasListed (list : PartSpec) (files : Files) (wires : List Wire)
 
 -- A graph that grew by its lists alone: each of them grew by its parts' sources or has no input,
 -- and else the first nodes have the ports that they had.
-pub record HasGrown (files : Files) (nodes : List DraftNode) (wires more : List Wire)
+pub record HasGrownByLists (files : Files) (nodes : List DraftNode) (wires more : List Wire)
     (boxes : List BoxPicture) : Type 0 where
   pub inputs : (n : ℕ) (z : DraftNode) → n < length nodes → slice_index_or nodes n z ≡ z
       → IsUngrown z.spec → input_count (wires ++ more) n ≡ input_count wires n
@@ -229,5 +215,5 @@ pub record HasEnded (files : Files) (nodes : List DraftNode) (boxes : List BoxPi
     pub lawful : (n : ℕ) → n < length boxes → (box_at boxes n).lawful ≡ true
     pub told : (n : ℕ) (s : Spec) → n < length boxes → (box_at boxes n).spec ≡ Some s
         → IsSourceKind (kind_of s) → (box_at boxes n).files ≡ Some files
-    pub grown : HasGrown files nodes (with_nodes nodes no_draft).wires more boxes
+    pub grown : HasGrownByLists files nodes (with_nodes nodes no_draft).wires more boxes
     pub done : IsDone ((with_nodes nodes no_draft).wires ++ more) boxes

@@ -1,7 +1,7 @@
 -- One port, wire or node more.
 use Rattle.chunk_data.proofs.Imports.{List, [], ap, arith, drop, get_or, length, suc, sym, take, zero, ℕ, ◌++◌, ◌+◌, ◌<◌, ◌∙◌, ◌∷◌, ◌≡◌, ◌≤◌}
 use Rattle.plan_graph.proofs.GraphLaws.{with-append}
-use Rattle.plan_graph.proofs.Prelude.{Wire, get_or-drop, length-drop, length-take-le, take_more}
+use Rattle.plan_graph.proofs.Imports.{Wire, get_or-drop, length-drop, length-take-le, take_more}
 use Rattle.plan_graph.specs.Names.{AllFitDraft, Draft, DraftNode, FitsDraft, NodePort, ports_of, run_of, wires_to, with_node, with_nodes}
 
 ports-suc : (n o k : ℕ) → ports_of n o (suc k) ≡ ports_of n o k ++ record { node = n; port = o + k }

@@ -1,7 +1,7 @@
 -- A list of nodes, each of which takes open ends of lower ranks, makes a graph where no end is left
 -- open.
 use Rattle.std.proofs.Common.{IsPermutation, List, [], ap, append_assoc, ap₂, arith, count_by, drop, get_or, length, map, refl, subst, suc, sym, take, zero, ℕ, ◌&&◌, ◌++◌, ◌+◌, ◌<◌, ◌==◌, ◌∙◌, ◌∷◌, ◌≡◌, ◌≤◌}
-use Rattle.plan_graph.proofs.Prelude.{All, All-append, All-cons, All-drop, All-nil, All-permutation, All-push, All-take, All-weaker, Contains, Contains-permutation, IsDistinct-IsPermutation, IsGraph, IsPermutation-append, IsPermutation-append_comm, IsPermutation-append_left, IsPermutation-append_right, IsPermutation-refl, IsPermutation-same, IsPermutation-sym, IsPermutation-trans, Wire, append-nil, get_or-map, get_or_append_left, input_count, is-gapless, length-append, length-map, map-append, no_wire, output_count, rank-kept, rank_at, sum_by-IsPermutation, wire-input, wire-output, wire_at}
+use Rattle.plan_graph.proofs.Imports.{All, All-append, All-cons, All-drop, All-nil, All-permutation, All-push, All-take, All-weaker, Contains, Contains-permutation, IsDistinct-IsPermutation, IsGraph, IsPermutation-append, IsPermutation-append_comm, IsPermutation-append_left, IsPermutation-append_right, IsPermutation-refl, IsPermutation-same, IsPermutation-sym, IsPermutation-trans, Wire, append-nil, get_or-map, get_or_append_left, input_count, is-gapless, length-append, length-map, map-append, no_wire, output_count, rank-kept, rank_at, sum_by-IsPermutation, wire-input, wire-output, wire_at}
 use Rattle.plan_graph.specs.Names.{AllFitDraft, Draft, FitsDraft, IsDraft, consumer_of, given_by, no_draft, ports_from, ports_of, producer_of, taken_by, wires_to, with_node, with_nodes, DraftNode, NodePort}
 use Rattle.plan_graph.proofs.Ports.{IsPortFrom, at_node, count-at, eqb-flips, ports-contain, ports-distinct, ports-from, ports_from-push, same-place, same_port, sum_by-map}
 use Rattle.plan_graph.proofs.Places.{run-length, run-split}

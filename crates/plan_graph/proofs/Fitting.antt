@@ -1,6 +1,6 @@
 -- Which lists of nodes fit, by the ranks of the open ends alone.
 use Rattle.std.proofs.Common.{List, [], ap, append_assoc, arith, get_or, length, map, refl, replicate, subst, suc, sym, zero, ℕ, ◌++◌, ◌<◌, ◌∙◌, ◌∷◌, ◌≡◌, ◌≤◌}
-use Rattle.plan_graph.proofs.Prelude.{All, All-cons, All-head, All-nil, All-replicate, All-tail, Spec, append-nil, length-append, length-map, length-replicate, rank-kept, rank_at}
+use Rattle.plan_graph.proofs.Imports.{All, All-cons, All-head, All-nil, All-replicate, All-tail, Spec, append-nil, length-append, length-map, length-replicate, rank-kept, rank_at}
 use Rattle.plan_graph.specs.Names.{AllFitDraft, AllFitEnds, Draft, FitsDraft, FitsEnds, IsDraft, given_by, no_draft, ports_of, producer_of, ranks_after, ranks_with, replaced, run_of, taken_by, with_node, with_nodes, DraftNode, NodePort, joint_node, lane_nodes, source_nodes}
 use Rattle.plan_graph.proofs.Drafts.{all-back, draft-more, draft-start, ends-known, from-map, rank-new}
 use Rattle.plan_graph.proofs.Places.{given-map, replaced-at, run-at, taken-map}

@@ -1,13 +1,13 @@
 -- A list of nodes that fits, and leaves no end open, is a graph.
 use Rattle.std.proofs.Common.{List, [], ap, arith, length, refl, sym, ◌++◌, ◌+◌, ◌∙◌, ◌∷◌, ◌≡◌, ◌≤◌}
-use Rattle.plan_graph.proofs.Prelude.{length-append, length-map, nil_from_length, rank_at}
-use Rattle.plan_graph.specs.Names.{AllFitEnds, Draft, IsGraphOf, no_draft, ranks_after, with_node, with_nodes, DraftNode, NodePort}
+use Rattle.plan_graph.proofs.Imports.{length-append, length-map, nil_from_length, rank_at}
+use Rattle.plan_graph.specs.Names.{AllFitEnds, Draft, IsDraftGraph, no_draft, ranks_after, with_node, with_nodes, DraftNode, NodePort}
 use Rattle.plan_graph.proofs.Fitting.{Fitted, fits}
 use Rattle.plan_graph.proofs.Drafts.{draft-of, graph-of-draft, inputs-of-draft, outputs-of-draft}
 
 pub lists-are-graphs : (nodes : List DraftNode) → AllFitEnds nodes [] → ranks_after nodes [] ≡ []
     → length nodes ≤ 256
-    → length (with_nodes nodes no_draft).wires ≤ 1024 → IsGraphOf nodes
+    → length (with_nodes nodes no_draft).wires ≤ 1024 → IsDraftGraph nodes
 lists-are-graphs nodes f none few edges =
     let fitted : Fitted nodes no_draft [] = fits nodes f in
     let d : Draft = with_nodes nodes no_draft in

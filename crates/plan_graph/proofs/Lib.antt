@@ -1,4 +1,4 @@
-pub mod Prelude
+pub mod Imports
 pub mod Ports
 pub mod Places
 pub mod Drafts

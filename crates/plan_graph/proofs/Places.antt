@@ -1,6 +1,6 @@
 -- A run at a place of a list, and what stands there after a replacement.
 use Rattle.std.proofs.Common.{List, ap, arith, drop, length, map, sym, take, ℕ, ◌++◌, ◌+◌, ◌∙◌, ◌≡◌, ◌≤◌}
-use Rattle.plan_graph.proofs.Prelude.{drop-drop, drop-map, drop_at, length-drop, length-take, map-append, take-append-drop, take-map, take_at}
+use Rattle.plan_graph.proofs.Imports.{drop-drop, drop-map, drop_at, length-drop, length-take, map-append, take-append-drop, take-map, take_at}
 use Rattle.plan_graph.specs.Names.{DraftNode, given_by, replaced, run_of, taken_by}
 
 -- a list is what stands before a run, the run, and what stands behind it

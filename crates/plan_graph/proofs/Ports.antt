@@ -1,6 +1,6 @@
 -- The ports of nodes in order: each once, without a gap, and as many of each node as it has.
 use Rattle.std.proofs.Common.{Bool, List, [], ap, append_assoc, arith, cond, false, get_or, inl, inr, length, map, refl, subst, suc, sum, sum_by, sym, true, zero, ℕ, ◌&&◌, ◌++◌, ◌+◌, ◌<◌, ◌==◌, ◌∙◌, ◌∷◌, ◌≡◌, ◌≤◌, ◌⊎◌}
-use Rattle.plan_graph.proofs.Prelude.{All, All-append, All-cons, All-from_recursion, All-nil, All-weaker, AllByRecursion, Contains, Contains-append_left, Contains-append_right, IsDistinct, IsDistinct-cons, and_from, and_parts, apart_from_distinct, append-nil, both_ways, cases_lt, eq-eqb, eqb-true, false_from_ne_true, map-map, recursion_from_All, sum-map, sum_by-append, sum_by-cons}
+use Rattle.plan_graph.proofs.Imports.{All, All-append, All-cons, All-from_recursion, All-nil, All-weaker, AllByRecursion, Contains, Contains-append_left, Contains-append_right, IsDistinct, IsDistinct-cons, and_from, and_parts, apart_from_distinct, append-nil, both_ways, cases_lt, eq-eqb, eqb-true, false_from_ne_true, map-map, recursion_from_All, sum-map, sum_by-append, sum_by-cons}
 use Rattle.plan_graph.specs.Names.{NodePort, ports_from, ports_of}
 
 -- ---- one more node

@@ -116,7 +116,7 @@ pub record IsDraft (takes gives : List ℕ) (d : Draft) : Type 0 where
   pub few_outputs : All (λ k. k ≤ 16) gives
 
 -- the graph of a list of nodes: each node has the ports that the list gives it
-pub record IsGraphOf (nodes : List DraftNode) : Type 0 where
+pub record IsDraftGraph (nodes : List DraftNode) : Type 0 where
   pub graph : IsGraph (with_nodes nodes no_draft).ranks (with_nodes nodes no_draft).wires []
   pub inputs : (n : ℕ) → input_count (with_nodes nodes no_draft).wires n ≡ slice_index_or
       (map (λ (z : DraftNode). z.takes) nodes) n 0

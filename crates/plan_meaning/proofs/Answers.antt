@@ -1,5 +1,5 @@
 -- What the last node of a plan has, all of whose input is done, is an answer.
-use Rattle.plan_meaning.proofs.Prelude.{All, List, None, [], ap, arith, get_or, length, map, refl, subst, suc, sym, true, ℕ, ◌++◌, ◌+◌, ◌∙◌, ◌∷◌, ◌≡◌, AllByRecursion, AllZip, AllInputsDone, Completes, Draft, DraftNode, FitsBlock, Fitted, Flow, IsOpenNode, Kind, Levels, Means, NodePort, Runs, Wire, all-back, all-front, and_from, consumer_of, fits, length-append, length-map, meant_by, no_draft, producer_of, pulled_by, ranks-count, taken_by, wires_to, with-append, with_node, with_nodes, AllPull, EachGives, HasRun, Pulls, pulled_rows, IsFront, Parts, Stream, IsPlan, IsSmall, IsTold, PlanAnswers, SelectPlan, body_nodes, collector, plan_nodes, plan_pulls}
+use Rattle.plan_meaning.proofs.Imports.{All, List, None, [], ap, arith, get_or, length, map, refl, subst, suc, sym, true, ℕ, ◌++◌, ◌+◌, ◌∙◌, ◌∷◌, ◌≡◌, AllByRecursion, AllZip, AllInputsDone, Completes, Draft, DraftNode, FitsBlock, Fitted, Flow, IsOpenNode, Kind, Levels, NodesMean, NodePort, PlanRuns, Wire, all-back, all-front, and_from, consumer_of, fits, length-append, length-map, meant_by, no_draft, producer_of, pulled_by_nodes, ranks-count, taken_by, wires_to, with-append, with_node, with_nodes, AllPull, EachGives, HasRun, Pulls, pulled_rows, IsFront, RowsOfSources, Stream, IsPlan, IsSmall, IsTold, PlanAnswers, SelectPlan, body_nodes, collector, plan_nodes, plan_pulls}
 use Rattle.plan_meaning.proofs.Runs.{RunsOf, runs}
 use Rattle.plan_meaning.proofs.Completing.{all-inputs-done, completes}
 use Rattle.plan_meaning.proofs.Fitting.{body-level}
@@ -7,8 +7,9 @@ use Rattle.plan_meaning.proofs.Fronts.{pulled-front}
 use Rattle.plan_meaning.proofs.Blocks.{Alone, only-one}
 use Rattle.plan_meaning.proofs.Plans.{PlanMade, plan-block}
 
-gives-front : (parts : Parts) (pulled pushed : NodePort → Stream) (n : ℕ) (xs ys : List DraftNode)
-    → EachGives parts n (xs ++ ys) pulled pushed → EachGives parts n xs pulled pushed
+gives-front : (parts : RowsOfSources) (pulled pushed : NodePort → Stream) (n : ℕ)
+    (xs ys : List DraftNode) → EachGives parts n (xs ++ ys) pulled pushed
+    → EachGives parts n xs pulled pushed
 gives-front parts pulled pushed n [] ys g = tt
 gives-front parts pulled pushed n (x ∷ xs) ys g =
     (g.0, gives-front parts pulled pushed (suc n) xs ys g.1)
@@ -32,14 +33,15 @@ pub record LeavesOne (nodes : List DraftNode) : Type 0 where
   pub block : FitsBlock nodes [] (rank ∷ [])
 
 -- a run of all nodes but the collector, and what the collector pulled
-record BodyRun (parts : Parts) (nodes : List DraftNode) (pulled pushed : NodePort → Stream)
+record BodyRun (parts : RowsOfSources) (nodes : List DraftNode) (pulled pushed : NodePort → Stream)
     (last : ℕ) : Type 0 where
   pub end : NodePort
   pub body : RunsOf parts pulled 0 nodes [] (pushed end ∷ [])
   pub pulls : Pulls (pulled (record { node = last; port = 0 })) (pushed end)
 
-body-run : (parts : Parts) (body : List DraftNode) (rank : ℕ) (pulled pushed : NodePort → Stream)
-    → LeavesOne body → HasRun parts (body ++ collector rank ∷ []) pulled pushed
+body-run : (parts : RowsOfSources) (body : List DraftNode) (rank : ℕ)
+    (pulled pushed : NodePort → Stream) → LeavesOne body
+    → HasRun parts (body ++ collector rank ∷ []) pulled pushed
     → (last : ℕ) → length (body ++ collector rank ∷ []) ≡ last + 1
     → BodyRun parts body pulled pushed last
 body-run parts body rank pulled pushed leaves run last count =
@@ -64,43 +66,43 @@ body-run parts body rank pulled pushed leaves run last count =
 
 -- What the collector of any list of nodes has is a front of a flow that the nodes' meaning gives,
 -- at every moment of a run. Where the collector's input is done it is the whole flow, and certain.
-pub record Collected (parts : Parts) (nodes : List DraftNode) (pulled : NodePort → Stream)
+pub record Collected (parts : RowsOfSources) (nodes : List DraftNode) (pulled : NodePort → Stream)
     (got : Stream) : Type 0 where
   pub flow : Flow
-  pub means : Means parts nodes [] (flow ∷ [])
+  pub means : NodesMean parts nodes [] (flow ∷ [])
   pub front : IsFront got flow
   -- where each node has an output and none is a limit, and the input is done
   pub counted : AllByRecursion IsOpenNode nodes → got.done ≡ true → (k : Kind)
       → pulled_rows k 0 nodes pulled ≡ meant_by parts k nodes [] (flow ∷ []) means
 
 -- the one flow of a run's end
-record OneFlow (parts : Parts) (nodes : List DraftNode) (s : Stream)
-    (r : Runs parts nodes [] (s ∷ [])) : Type 0 where
+record OneFlow (parts : RowsOfSources) (nodes : List DraftNode) (s : Stream)
+    (r : PlanRuns parts nodes [] (s ∷ [])) : Type 0 where
   pub flow : Flow
-  pub means : Means parts nodes [] (flow ∷ [])
+  pub means : NodesMean parts nodes [] (flow ∷ [])
   pub front : IsFront s flow
   pub counted : AllInputsDone parts nodes [] (s ∷ []) r → (k : Kind)
-      → pulled_by parts k nodes [] (s ∷ []) r ≡ meant_by parts k nodes [] (flow ∷ []) means
+      → pulled_by_nodes parts k nodes [] (s ∷ []) r ≡ meant_by parts k nodes [] (flow ∷ []) means
 
-one-flow : (parts : Parts) (nodes : List DraftNode) (s : Stream)
-    (r : Runs parts nodes [] (s ∷ [])) → Completes parts nodes [] [] (s ∷ []) r
+one-flow : (parts : RowsOfSources) (nodes : List DraftNode) (s : Stream)
+    (r : PlanRuns parts nodes [] (s ∷ [])) → Completes parts nodes [] [] (s ∷ []) r
     → OneFlow parts nodes s r
 one-flow parts nodes s r c = go c.flows c.means c.fronts c.counted
   where
-    go : (flows : List Flow) (m : Means parts nodes [] flows) → AllZip IsFront (s ∷ []) flows
+    go : (flows : List Flow) (m : NodesMean parts nodes [] flows) → AllZip IsFront (s ∷ []) flows
         → (AllInputsDone parts nodes [] (s ∷ []) r → (k : Kind)
-        → pulled_by parts k nodes [] (s ∷ []) r ≡ meant_by parts k nodes [] flows m)
+        → pulled_by_nodes parts k nodes [] (s ∷ []) r ≡ meant_by parts k nodes [] flows m)
         → OneFlow parts nodes s r
     go (f ∷ []) m z n = record { flow = f; means = m; front = z.0; counted = n }
     go [] m z n = absurd z
     go (f ∷ g ∷ flows) m z n = absurd z.1
 
-pub collected : (parts : Parts) (nodes : List DraftNode) (rank : ℕ)
+pub collector_gathers : (parts : RowsOfSources) (nodes : List DraftNode) (rank : ℕ)
     (pulled pushed : NodePort → Stream) → LeavesOne nodes
     → HasRun parts (nodes ++ collector rank ∷ []) pulled pushed
     → (last : ℕ) → length (nodes ++ collector rank ∷ []) ≡ last + 1
     → Collected parts nodes pulled (pulled (record { node = last; port = 0 }))
-collected parts nodes rank pulled pushed leaves run last count =
+collector_gathers parts nodes rank pulled pushed leaves run last count =
     let b = body-run parts nodes rank pulled pushed leaves run last count in
     let s : Stream = pushed b.end in
     let c = completes parts nodes [] (s ∷ []) [] b.body.run tt in
@@ -117,7 +119,7 @@ collected parts nodes rank pulled pushed leaves run last count =
 
 -- What the collector pulled is an answer. Where there is no limit, the nodes of each kind that is
 -- told of pulled as many rows as the plan says.
-pub body-answer : (parts : Parts) (p : SelectPlan) (rank : ℕ)
+pub body-answer : (parts : RowsOfSources) (p : SelectPlan) (rank : ℕ)
     (pulled pushed : NodePort → Stream) → IsPlan p → IsSmall p
     → HasRun parts (body_nodes p ++ collector rank ∷ []) pulled pushed
     → (last : ℕ) → length (body_nodes p ++ collector rank ∷ []) ≡ last + 1
@@ -127,7 +129,7 @@ pub body-answer : (parts : Parts) (p : SelectPlan) (rank : ℕ)
     → pulled_rows k 0 (body_nodes p) pulled ≡ plan_pulls k parts p)
 body-answer parts p rank pulled pushed is small run last count done =
     let level : Levels (body_nodes p) [] 1 14 = body-level p small in
-    let c = collected parts (body_nodes p) rank pulled pushed
+    let c = collector_gathers parts (body_nodes p) rank pulled pushed
     (record { rank = level.rank; block = level.block }) run last count in
     let block = plan-block parts p is in
     let means = block.run [] (c.flow ∷ []) refl c.means in
@@ -149,8 +151,8 @@ body-answer parts p rank pulled pushed is small run last count done =
     the-one f a = subst (PlanMade parts p) (sym (ap (λ l. get_or l 0 f) a.are)) a.has
 
 -- the same of the plan, whose collector has the last step's rank
-pub plans-answer : (parts : Parts) (p : SelectPlan) (pulled pushed : NodePort → Stream) → IsPlan p
-    → IsSmall p → HasRun parts (plan_nodes p) pulled pushed
+pub plans-answer : (parts : RowsOfSources) (p : SelectPlan) (pulled pushed : NodePort → Stream)
+    → IsPlan p → IsSmall p → HasRun parts (plan_nodes p) pulled pushed
     → (last : ℕ) → length (plan_nodes p) ≡ last + 1
     → (pulled (record { node = last; port = 0 })).done ≡ true
     → PlanAnswers parts p (pulled (record { node = last; port = 0 })).rows

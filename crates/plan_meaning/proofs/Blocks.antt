@@ -1,12 +1,12 @@
 -- The meaning of blocks of nodes, one behind the other, and how many rows the nodes of a kind pull.
 use Rattle.std.proofs.lemmas.Grind.{common_steps}
-use Rattle.plan_meaning.proofs.Prelude.{Bool, IsPermutation, List, [], ap, ap₂, arith, cond, inl, inr, length, refl, subst, suc, sym, true, zero, ℕ, ◌++◌, ◌+◌, ◌<◌, ◌∙◌, ◌∷◌, ◌≡◌, AllByRecursion, AllZip, AllZip-long, DraftNode, IsPermutation-append, IsPermutation-refl, IsPermutation-same, IsPermutation-trans, Kind, Row, Spec, and_from, and_parts, append-nil, append_assoc, every-append, joint_node, lane_nodes, length-append, length-map, length_permutation, or_cases, replaced-at, run-at, source_nodes, taken_by, Flow, Parts, all_certain, all_rows, any_needs, flow_rows, flows_of, IsNoLimit, IsOpenNode, IsSource, IsTold, Makes, Means, MeansNode, all_valid, if_kind, is_certain, is_needed, is_valid_source, meant_by, pulls, source_list, sources_rows}
+use Rattle.plan_meaning.proofs.Imports.{Bool, IsPermutation, List, [], ap, ap₂, arith, cond, inl, inr, length, refl, subst, suc, sym, true, zero, ℕ, ◌++◌, ◌+◌, ◌<◌, ◌∙◌, ◌∷◌, ◌≡◌, AllByRecursion, AllZip, AllZip-long, DraftNode, IsPermutation-append, IsPermutation-refl, IsPermutation-same, IsPermutation-trans, Kind, Row, Spec, and_from, and_parts, append-nil, append_assoc, every-append, joint_node, lane_nodes, length-append, length-map, length_permutation, or_cases, replaced-at, run-at, source_nodes, taken_by, Flow, RowsOfSources, all_certain, rows_together, any_needs, flow_rows, flows_of, IsNoLimit, IsOpenNode, IsSourceSpec, IsTold, MakesRows, NodesMean, MeansNode, all_valid, if_kind, is_certain, is_needed, is_valid_source, meant_by, pulls, source_list, sources_rows}
 use Rattle.query_model.specs.declared.processor_spec.Spec.TheVariants as spec
 
 -- ---- nodes
 
 -- the flow of these rows, which a node made of such flows
-abbrev pub flow_made : Parts → Spec → List Flow → List Row → Flow
+abbrev pub flow_made : RowsOfSources → Spec → List Flow → List Row → Flow
 flow_made parts s t rows = record {
   rows = rows;
   certain = is_certain parts s t;
@@ -14,18 +14,20 @@ flow_made parts s t rows = record {
 }
 
 -- what a node made of the flows t, between xs and ys
-pub record NodeMade (parts : Parts) (node : DraftNode) (xs t ys before after : List Flow) : Type 0
+pub record NodeMade (parts : RowsOfSources) (node : DraftNode) (xs t ys before after : List Flow) :
+    Type 0
   where
     pub outs : List (List Row)
-    pub makes : Makes parts node.spec (flow_rows t) outs
+    pub makes : MakesRows parts node.spec (flow_rows t) outs
     pub count : length outs ≡ node.gives
     pub are : after ≡ xs ++ (flows_of (is_certain parts node.spec t) (is_needed parts node.spec t)
         outs ++ ys)
-    pub pulled : (k : Kind) → if_kind k node (length (all_rows (flow_rows (taken_by node before))))
-        ≡ pulls k node.spec (length (all_rows (flow_rows t)))
+    pub pulled : (k : Kind) → if_kind k node
+        (length (rows_together (flow_rows (taken_by node before))))
+        ≡ pulls k node.spec (length (rows_together (flow_rows t)))
 
 -- a node between other open ends
-pub node-at : (parts : Parts) (node : DraftNode) (xs t ys before after : List Flow)
+pub node-at : (parts : RowsOfSources) (node : DraftNode) (xs t ys before after : List Flow)
     → before ≡ xs ++ (t ++ ys) → length xs ≡ node.offset → length t ≡ node.takes
     → MeansNode parts node before after → NodeMade parts node xs t ys before after
 node-at parts node xs t ys before after is a b m = search (arith, run-at, replaced-at)
@@ -36,24 +38,26 @@ only-one P (x ∷ []) e h = (x, refl, h)
 only-one P xs e h = absurd (omega (arith, e))
 
 -- two lists of nodes, one behind the other
-pub record Split (parts : Parts) (front back : List DraftNode) (before after : List Flow)
-    (m : Means parts (front ++ back) before after) : Type 0 where
+pub record Split (parts : RowsOfSources) (front back : List DraftNode) (before after : List Flow)
+    (m : NodesMean parts (front ++ back) before after) : Type 0 where
   pub middle : List Flow
-  pub first : Means parts front before middle
-  pub then' : Means parts back middle after
+  pub first : NodesMean parts front before middle
+  pub then' : NodesMean parts back middle after
   pub pulled : (k : Kind) → meant_by parts k (front ++ back) before after m
       ≡ meant_by parts k front before middle first + meant_by parts k back middle after then'
 
-pub split : (parts : Parts) (front back : List DraftNode) (before after : List Flow)
-    (m : Means parts (front ++ back) before after) → Split parts front back before after m
-split parts [] back before after m = record {
+pub means_of_append : (parts : RowsOfSources) (front back : List DraftNode)
+    (before after : List Flow)
+    (m : NodesMean parts (front ++ back) before after) → Split parts front back before after m
+means_of_append parts [] back before after m = record {
   middle = before;
   first = refl;
   then' = m;
   pulled = λ k. omega arith;
 }
-split parts (node ∷ front) back before after m =
-    let more : Split parts front back m.0 after m.2 = split parts front back m.0 after m.2 in
+means_of_append parts (node ∷ front) back before after m =
+    let more : Split parts front back m.0 after m.2 =
+    means_of_append parts front back m.0 after m.2 in
     record {
       middle = more.middle;
       first = (m.0, m.1, more.first);
@@ -71,27 +75,27 @@ sum-of b m n = grind arith
 -- ---- lanes
 
 -- what each lane's node made
-abbrev pub LaneMade : Parts → Spec → Flow → Flow → Type 0
-LaneMade parts s y z = Makes parts s (y.rows ∷ []) (z.rows ∷ [])
+abbrev pub LaneMade : RowsOfSources → Spec → Flow → Flow → Type 0
+LaneMade parts s y z = MakesRows parts s (y.rows ∷ []) (z.rows ∷ [])
     × (z.certain ≡ is_certain parts s (y ∷ [])) × (z.needs ≡ is_needed parts s (y ∷ []))
 
-record LanesMade (parts : Parts) (s : Spec) (rank i n : ℕ) (xs ys before after : List Flow)
-    (m : Means parts (lane_nodes s rank i n) before after) : Type 0 where
+record LanesMade (parts : RowsOfSources) (s : Spec) (rank i n : ℕ) (xs ys before after : List Flow)
+    (m : NodesMean parts (lane_nodes s rank i n) before after) : Type 0 where
   pub lanes : List Flow
   pub are : after ≡ xs ++ lanes
   pub each : AllZip (LaneMade parts s) ys lanes
   pub pulled : (k : Kind) → meant_by parts k (lane_nodes s rank i n) before after m
-      ≡ pulls k s (length (all_rows (flow_rows ys)))
+      ≡ pulls k s (length (rows_together (flow_rows ys)))
 
-lanes-mean : (parts : Parts) (s : Spec) (rank i n : ℕ) (xs ys before after : List Flow)
+lanes-mean : (parts : RowsOfSources) (s : Spec) (rank i n : ℕ) (xs ys before after : List Flow)
     → before ≡ xs ++ ys → length xs ≡ i → length ys ≡ n
-    → (m : Means parts (lane_nodes s rank i n) before after)
+    → (m : NodesMean parts (lane_nodes s rank i n) before after)
     → LanesMade parts s rank i n xs ys before after m
 lanes-mean parts s rank i zero xs [] before after is a b m = search (arith, none-of)
 lanes-mean parts s rank i (suc n) xs (y ∷ ys) before after is a b m =
     let node : DraftNode = record { spec = s; rank = rank; offset = i; takes = 1; gives = 1 } in
     let made = node-at parts node xs (y ∷ []) ys before m.0 is a refl m.1 in
-    let one = only-one (λ l. Makes parts s (y.rows ∷ []) l) made.outs made.count made.makes in
+    let one = only-one (λ l. MakesRows parts s (y.rows ∷ []) l) made.outs made.count made.makes in
     let z : Flow = flow_made parts s (y ∷ []) one.0 in
     let here : m.0 ≡ (xs ++ z ∷ []) ++ ys = grind (arith, append_assoc) in
     let more = lanes-mean parts s rank (suc i) n (xs ++ z ∷ []) ys m.0 after here
@@ -111,30 +115,30 @@ open-lanes s rank i (suc n) h = ((omega arith, h), open-lanes s rank (suc i) n h
 
 -- ---- sources
 
-source-made : (parts : Parts) (s : Spec) (rows : List Row) → IsSource s
-    → Makes parts s [] (rows ∷ []) → IsPermutation (source_list parts s) rows
+source-made : (parts : RowsOfSources) (s : Spec) (rows : List Row) → IsSourceSpec s
+    → MakesRows parts s [] (rows ∷ []) → IsPermutation (source_list parts s) rows
     × (is_certain parts s [] ≡ true → is_valid_source parts s ≡ true)
 source-made parts x1 rows i m = grind (arith, IsPermutation-same)
 
-record SourcesMade (parts : Parts) (specs : List Spec) (i : ℕ) (xs before after : List Flow)
-    (m : Means parts (source_nodes i specs) before after) : Type 0 where
+record SourcesMade (parts : RowsOfSources) (specs : List Spec) (i : ℕ) (xs before after : List Flow)
+    (m : NodesMean parts (source_nodes i specs) before after) : Type 0 where
   pub flows : List Flow
   pub are : after ≡ xs ++ flows
   pub count : length flows ≡ length specs
-  pub same : IsPermutation (sources_rows parts specs) (all_rows (flow_rows flows))
+  pub same : IsPermutation (sources_rows parts specs) (rows_together (flow_rows flows))
   pub certain : all_certain flows ≡ true → all_valid parts specs ≡ true
   pub pulled : (k : Kind) → meant_by parts k (source_nodes i specs) before after m ≡ 0
 
-sources-mean : (parts : Parts) (specs : List Spec) (i : ℕ) (xs before after : List Flow)
-    → before ≡ xs → length xs ≡ i → AllByRecursion IsSource specs
-    → (m : Means parts (source_nodes i specs) before after)
+sources-mean : (parts : RowsOfSources) (specs : List Spec) (i : ℕ) (xs before after : List Flow)
+    → before ≡ xs → length xs ≡ i → AllByRecursion IsSourceSpec specs
+    → (m : NodesMean parts (source_nodes i specs) before after)
     → SourcesMade parts specs i xs before after m
 sources-mean parts [] i xs before after is a sources m =
     search (arith, append-nil, IsPermutation-refl)
 sources-mean parts (s ∷ specs) i xs before after is a sources m =
     let node : DraftNode = record { spec = s; rank = 1; offset = i; takes = 0; gives = 1 } in
     let made = node-at parts node xs [] [] before m.0 (is ∙ sym (append-nil xs)) a refl m.1 in
-    let one = only-one (λ l. Makes parts s [] l) made.outs made.count made.makes in
+    let one = only-one (λ l. MakesRows parts s [] l) made.outs made.count made.makes in
     let z : Flow = flow_made parts s [] one.0 in
     let more = sources-mean parts specs (suc i) (xs ++ z ∷ []) m.0 after
     (made.are ∙ ap (λ l. xs ++ (flows_of z.certain z.needs l ++ [])) one.1)
@@ -149,7 +153,7 @@ sources-mean parts (s ∷ specs) i xs before after is a sources m =
       pulled = grind (arith, none-of);
     }
 
-open-sources : (specs : List Spec) (i : ℕ) → AllByRecursion IsSource specs
+open-sources : (specs : List Spec) (i : ℕ) → AllByRecursion IsSourceSpec specs
     → AllByRecursion IsOpenNode (source_nodes i specs)
 open-sources [] i h = tt
 open-sources (s ∷ specs) i h = grind (arith, open-sources specs (suc i) h.1)
@@ -160,7 +164,7 @@ open-sources (s ∷ specs) i h = grind (arith, open-sources specs (suc i) h.1)
 -- and need n.
 pub record Spread (lanes : ℕ) (rows : List Row) (c n : Bool) (flows : List Flow) : Type 0 where
   pub count : length flows ≡ lanes
-  pub same : IsPermutation rows (all_rows (flow_rows flows))
+  pub same : IsPermutation rows (rows_together (flow_rows flows))
   pub certain : all_certain flows ≡ true → c ≡ true
   pub needs : any_needs flows ≡ true → n ≡ true
 
@@ -208,23 +212,23 @@ rows-marked c n (l ∷ lists) = ap (λ z. l ∷ z) (rows-marked c n lists)
 
 -- ---- blocks
 
-module _ (parts : Parts) (unlimited : Type 0) where
+module _ (parts : RowsOfSources) (unlimited : Type 0) where
   -- Where P is true of the flows before the nodes, Q is true of those behind them. Where no node is
   -- a limit, each has an output, and the nodes of each kind that is told of pull so many rows.
   pub record Block (nodes : List DraftNode) (P Q : List Flow → Type 0) (n : Kind → ℕ) : Type 0
     where
-      pub run : (before after : List Flow) → P before → (m : Means parts nodes before after)
+      pub run : (before after : List Flow) → P before → (m : NodesMean parts nodes before after)
           → Q after × (unlimited → (k : Kind) → IsTold k
           → meant_by parts k nodes before after m ≡ n k)
       pub all_open : unlimited → AllByRecursion IsOpenNode nodes
 
-module _ {parts : Parts} {unlimited : Type 0} where
+module _ {parts : RowsOfSources} {unlimited : Type 0} where
   pub block-then : {xs ys : List DraftNode} {P Q R : List Flow → Type 0} {a b : Kind → ℕ}
       → Block parts unlimited xs P Q a → Block parts unlimited ys Q R b
       → Block parts unlimited (xs ++ ys) P R (λ k. a k + b k)
   block-then {xs} {ys} f g = record {
     run = λ before after p m.
-        let s = split parts xs ys before after m in
+        let s = means_of_append parts xs ys before after m in
         let one = f.run before s.middle p s.first in
         let two = g.run s.middle after one.0 s.then' in
         (two.0, λ u k t. s.pulled k ∙ ap₂ (λ x y. x + y) (one.1 u k t) (two.1 u k t));
@@ -265,7 +269,7 @@ module _ {parts : Parts} {unlimited : Type 0} where
 
   -- sources behind other flows
   pub sources-block : (specs : List Spec) (i : ℕ) (P : List Flow → Type 0)
-      → AllByRecursion IsSource specs → ((l : List Flow) → P l → length l ≡ i)
+      → AllByRecursion IsSourceSpec specs → ((l : List Flow) → P l → length l ≡ i)
       → Block parts unlimited (source_nodes i specs) P
       (Both P (Spread (length specs) (sources_rows parts specs) (all_valid parts specs) true))
       (λ k. 0)
@@ -295,11 +299,12 @@ module _ {parts : Parts} {unlimited : Type 0} where
       → (unlimited → IsNoLimit node.spec) → 0 < node.gives
       → ((l : List Flow) → P l → length l ≡ node.offset)
       → ((l : List Flow) → Q l → length l ≡ node.takes)
-      → ((t : List Flow) (outs : List (List Row)) → Q t → Makes parts node.spec (flow_rows t) outs
+      → ((t : List Flow) (outs : List (List Row)) → Q t
+      → MakesRows parts node.spec (flow_rows t) outs
       → length outs ≡ node.gives
       → R (flows_of (is_certain parts node.spec t) (is_needed parts node.spec t) outs))
       → ((k : Kind) (t : List Flow) → unlimited → IsTold k → Q t
-      → pulls k node.spec (length (all_rows (flow_rows t))) ≡ n k)
+      → pulls k node.spec (length (rows_together (flow_rows t))) ≡ n k)
       → Block parts unlimited (node ∷ []) (Both P Q) (Both P R) n
   node-block node P Q R n limit some front takes step pulled =
       grind (arith, common_steps, node-at, append-nil)
@@ -308,17 +313,17 @@ module _ {parts : Parts} {unlimited : Type 0} where
   pub joint-block : (s : Spec) (rank m : ℕ) (P : List Flow → Type 0) (Q : Flow → Type 0)
       (n : Kind → ℕ)
       → (unlimited → IsNoLimit s) → ((l : List Flow) → P l → length l ≡ m)
-      → ((t : List Flow) (out : List Row) → P t → Makes parts s (flow_rows t) (out ∷ [])
+      → ((t : List Flow) (out : List Row) → P t → MakesRows parts s (flow_rows t) (out ∷ [])
       → Q (flow_made parts s t out))
       → ((k : Kind) (t : List Flow) → unlimited → IsTold k → P t
-      → pulls k s (length (all_rows (flow_rows t))) ≡ n k)
+      → pulls k s (length (rows_together (flow_rows t))) ≡ n k)
       → Block parts unlimited (joint_node s rank m 1 ∷ []) P (Alone Q) n
   joint-block s rank m P Q n limit takes step pulled =
       block-so (alone-from P) (alone-to (Alone Q)) (λ k. refl)
       (node-block (joint_node s rank m 1) (λ l. l ≡ []) P (Alone Q) n limit (omega arith)
       (λ l e. ap length e) takes
       (λ t outs p makes count.
-      let one = only-one (λ l. Makes parts s (flow_rows t) l) outs count makes in
+      let one = only-one (λ l. MakesRows parts s (flow_rows t) l) outs count makes in
       let f : Flow = flow_made parts s t one.0 in
       record {
         value = f;
@@ -330,10 +335,10 @@ module _ {parts : Parts} {unlimited : Type 0} where
   pub form-block : {A : Type 0} (s : Spec) (rank m : ℕ) (form : A → List Flow) (P : A → Type 0)
       (Q : Flow → Type 0) (n : Kind → ℕ) → (unlimited → IsNoLimit s)
       → ((a : A) → length (form a) ≡ m)
-      → ((a : A) (out : List Row) → P a → Makes parts s (flow_rows (form a)) (out ∷ [])
+      → ((a : A) (out : List Row) → P a → MakesRows parts s (flow_rows (form a)) (out ∷ [])
       → Q (flow_made parts s (form a) out))
       → ((k : Kind) (a : A) → unlimited → P a
-      → pulls k s (length (all_rows (flow_rows (form a)))) ≡ n k)
+      → pulls k s (length (rows_together (flow_rows (form a)))) ≡ n k)
       → Block parts unlimited (joint_node s rank m 1 ∷ []) (Form form P) (Alone Q) n
   form-block s rank m form P Q n limit takes step pulled = search (arith, joint-block)
 

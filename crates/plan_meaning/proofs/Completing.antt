@@ -1,12 +1,12 @@
 -- What passed by the end of a run is the first of what passes where nobody closes an input.
-use Rattle.plan_meaning.proofs.Prelude.{Bool, List, [], arith, length, refl, subst, sym, true, ◌++◌, ◌+◌, ◌<◌, ◌∙◌, ◌∷◌, ◌≡◌, AllByRecursion, AllZip, AllZip-long, DraftNode, KeyPair, Spec, and_from, and_parts, both_ways, given_by, length-map, list_all-append, or_cases, or_left, run-split, taken_by, AllInputsDone, IsNoLimit, IsOpenNode, Pulls, Runs, RunsNode, Completes, IsFront, Flow, OneToOne, Parts, Source, Stream, TwoToOne, all_done, any_done, flows_of, Gives, GivesJoined, Makes, is_certain, is_needed}
+use Rattle.plan_meaning.proofs.Imports.{Bool, List, [], arith, length, refl, subst, sym, true, ◌++◌, ◌+◌, ◌<◌, ◌∙◌, ◌∷◌, ◌≡◌, AllByRecursion, AllZip, AllZip-long, DraftNode, KeyPair, Spec, and_from, and_parts, both_ways, given_by, length-map, list_all-append, or_cases, or_left, run-split, taken_by, AllInputsDone, IsNoLimit, IsOpenNode, Pulls, PlanRuns, RunsNode, Completes, IsFront, Flow, OneToOne, RowsOfSources, Source, Stream, TwoToOne, all_done, any_done, flows_of, Gives, GivesJoined, MakesRows, is_certain, is_needed}
 use Rattle.plan_meaning.proofs.KindLaws.{CompletesKind, complete-kind, done-rows}
 use Rattle.plan_meaning.proofs.Fronts.{pulled-front}
 use Rattle.plan_meaning.proofs.Zips.{zip-chain, zip-given, zip-taken}
 use Rattle.query_model.specs.declared.processor_spec.Spec.TheVariants as spec
 
-pub completes : (parts : Parts) (nodes : List DraftNode) (before after : List Stream)
-    (flows : List Flow) (r : Runs parts nodes before after) → AllZip IsFront before flows
+pub completes : (parts : RowsOfSources) (nodes : List DraftNode) (before after : List Stream)
+    (flows : List Flow) (r : PlanRuns parts nodes before after) → AllZip IsFront before flows
     → Completes parts nodes flows before after r
 completes parts [] before after flows r z = search (arith)
 completes parts (node ∷ nodes) before after flows r z =
@@ -16,7 +16,7 @@ completes parts (node ∷ nodes) before after flows r z =
     let made : List Flow = taken_by node flows in
     let certain : Bool = is_certain parts node.spec made in
     let needs : Bool = is_needed parts node.spec made in
-    let k : CompletesKind (Makes parts node.spec) certain needs made step.outs =
+    let k : CompletesKind (MakesRows parts node.spec) certain needs made step.outs =
     complete-kind parts node.spec step.ins step.outs (taken_by node flows) step.gives taken in
     let next : List Flow = flows_of certain needs k.lists in
     let fronts = zip-given IsFront node step.outs before next flows k.fronts z in
@@ -43,8 +43,8 @@ completes parts (node ∷ nodes) before after flows r z =
 
 -- ---- where the ends are done and no node is a limit, all inputs are done
 
-pub record BothDone (parts : Parts) (nodes : List DraftNode) (before after : List Stream)
-    (r : Runs parts nodes before after) : Type 0 where
+pub record BothDone (parts : RowsOfSources) (nodes : List DraftNode) (before after : List Stream)
+    (r : PlanRuns parts nodes before after) : Type 0 where
   pub ends : all_done before ≡ true
   pub inputs : AllInputsDone parts nodes before after r
 
@@ -78,14 +78,14 @@ join-done : (pairs : List KeyPair) (ins outs : List Stream) → TwoToOne (GivesJ
     → any_done outs ≡ true → all_done ins ≡ true
 join-done pairs ins outs q e = grind (arith, or_cases, and_from, both_ways)
 
-inputs-done : (parts : Parts) (s : Spec) (ins outs : List Stream) → Gives parts s ins outs
+inputs-done : (parts : RowsOfSources) (s : Spec) (ins outs : List Stream) → Gives parts s ins outs
     → IsNoLimit s → any_done outs ≡ true → all_done ins ≡ true
 inputs-done parts s ins outs g n e =
     grind (arith, source-done, one-done, join-done, both_ways, or_cases)
 
-pub all-inputs-done : (parts : Parts) (nodes : List DraftNode) (before after : List Stream)
-    (r : Runs parts nodes before after) → AllByRecursion IsOpenNode nodes → all_done after ≡ true
-    → BothDone parts nodes before after r
+pub all-inputs-done : (parts : RowsOfSources) (nodes : List DraftNode) (before after : List Stream)
+    (r : PlanRuns parts nodes before after) → AllByRecursion IsOpenNode nodes → all_done after
+    ≡ true → BothDone parts nodes before after r
 all-inputs-done parts [] before after r open_nodes e = search (arith)
 all-inputs-done parts (node ∷ nodes) before after r open_nodes e = grind (
   arith,

@@ -1,5 +1,5 @@
 -- Expressions and conditions of one form have the same values and the same types.
-use Rattle.plan_meaning.proofs.Prelude.{All-cons, All-head, All-tail, ColumnType, Cond, Expr, IsItem, IsTyped, IsTypedCond, IsTypedOperand, Operand, Row, cond_form, formula, item_row, operand_form, operand_type, operand_value, plain_of, truth_of, type_of, value_of, All, List, [], ap₂, arith, map, refl, ℕ, ◌∷◌, ◌≡◌}
+use Rattle.plan_meaning.proofs.Imports.{All-cons, All-head, All-tail, ColumnType, Cond, Expr, IsItem, IsTyped, IsTypedCond, IsTypedOperand, Operand, Row, cond_form, formula, item_row, operand_form, operand_type, operand_value, plain_of, truth_of, type_of, value_of, All, List, [], ap₂, arith, map, refl, ℕ, ◌∷◌, ◌≡◌}
 use Rattle.query_model.specs.declared.query.ExprOf.TheVariants as expr
 use Rattle.query_model.specs.declared.query.Operand.TheVariants as operand
 use Rattle.query_model.specs.declared.query.CondOf.TheVariants as cond'

@@ -1,6 +1,6 @@
 -- Each plan with few parts and lanes fits.
 use Rattle.std.proofs.lemmas.Grind.{common_steps}
-use Rattle.plan_meaning.proofs.Prelude.{List, None, Option, Some, [], arith, length, refl, replicate, ℕ, ◌++◌, ◌<◌, ◌∷◌, ◌≡◌, ◌≤◌, AllFitEnds, Cond, FitsBlock, Levels, SortSpec, Span, Spec, all-front', append-nil, block-append, joint-fit, joint-level, lanes-level, length-replicate, level-append, ranks_after, replaced-at, run-at, same-ranks, source_nodes, sources-fit, stay-level, subst}
+use Rattle.plan_meaning.proofs.Imports.{List, None, Option, Some, [], arith, length, refl, replicate, ℕ, ◌++◌, ◌<◌, ◌∷◌, ◌≡◌, ◌≤◌, AllFitEnds, Cond, FitsBlock, Levels, SortSpec, Span, Spec, all-front', append-nil, block-append, joint-fit, joint-level, lanes-level, length-replicate, level-append, ranks_after, replaced-at, run-at, same-ranks, source_nodes, sources-fit, stay-level, subst}
 use Rattle.plan_meaning.specs.Plans.{FewJoined, FewSources, IsSmall, PlanJoin, PlanShape, SelectPlan, body_nodes, filter_nodes, gather_nodes, grouped, lane_steps, limit_nodes, plain, plan_nodes, read_nodes, read_steps, select_steps, shape_nodes, sort_nodes}
 use Rattle.query_model.specs.declared.processor_spec.Spec.TheVariants as spec
 

@@ -1,5 +1,5 @@
 -- What was pulled is the first of what could pass.
-use Rattle.plan_meaning.proofs.Prelude.{IsPermutation, IsSorted, List, [], arith, false, inl, inr, is_lt, length, refl, sym, true, ◌++◌, ◌<◌, ◌∙◌, ◌∷◌, ◌≡◌, AllByRecursion, AllZip, InOrder, IsBeforeNone, IsPermutation-append_comm, IsPermutation-append_left, IsPermutation-append_right, IsPermutation-refl, IsPermutation-same, IsPermutation-trans, Row, SortKey, and_from, and_parts, append-nil, append_assoc, append_cancel_left, cases_lt, every-append, every-contains, every-weaker, length-append, or_left, or_right, order-cross, order-from_sorted, row_cmp, rows-ordered, Flow, Stream, all_certain, all_done, all_rows, any_needs, flow_rows, rows_of, HoldsBack, IsFront, Pulls}
+use Rattle.plan_meaning.proofs.Imports.{IsPermutation, IsSorted, List, [], arith, false, inl, inr, is_lt, length, refl, sym, true, ◌++◌, ◌<◌, ◌∙◌, ◌∷◌, ◌≡◌, AllByRecursion, AllZip, InOrder, IsBeforeNone, IsPermutation-append_comm, IsPermutation-append_left, IsPermutation-append_right, IsPermutation-refl, IsPermutation-same, IsPermutation-trans, Row, SortKey, and_from, and_parts, append-nil, append_assoc, append_cancel_left, cases_lt, every-append, every-contains, every-weaker, length-append, or_left, or_right, order-cross, order-from_sorted, row_cmp, rows-ordered, Flow, Stream, all_certain, all_done, rows_together, any_needs, flow_rows, stream_rows, HoldsBack, IsFront, Pulls}
 
 pub pulled-front : (i s : Stream) (f : Flow) → Pulls i s → IsFront s f → IsFront i f
 pulled-front i s f p h = search (arith, append_assoc, length-append)
@@ -12,19 +12,19 @@ certain-inputs ins fs h e = grind arith
 
 -- where a row passed, what one of them needs is there
 pub needed-inputs : (ins : List Stream) (fs : List Flow) → AllZip IsFront ins fs
-    → 0 < length (all_rows (rows_of ins)) → any_needs fs ≡ true
+    → 0 < length (rows_together (stream_rows ins)) → any_needs fs ≡ true
 needed-inputs (i ∷ ins) (f ∷ fs) h some = elim (cases_lt 0 (length i.rows)) [
   | inl here ↦ or_left _ _ (h.0.needs here)
   | inr none ↦ or_right f.needs _
       (needed-inputs ins fs h.1
-      (omega (arith, some, none, length-append i.rows (all_rows (rows_of ins)))))
+      (omega (arith, some, none, length-append i.rows (rows_together (stream_rows ins)))))
 ]
 needed-inputs ins fs h some = grind arith
 
 -- the rows that are yet to pass at some ports
 pub record Behind (ins : List Stream) (fs : List Flow) : Type 0 where
   pub rest : List Row
-  pub are : IsPermutation (all_rows (flow_rows fs)) (all_rows (rows_of ins) ++ rest)
+  pub are : IsPermutation (rows_together (flow_rows fs)) (rows_together (stream_rows ins) ++ rest)
   pub none : all_done ins ≡ true → rest ≡ []
   -- none of them comes before a row that all inputs hold back
   pub later : (keys : List SortKey) (out : List Row)
@@ -36,9 +36,9 @@ pub no-rest : (xs rest ys : List Row) → xs ++ rest ≡ ys → xs ≡ ys → re
 no-rest xs rest ys e same = append_cancel_left xs rest [] (e ∙ sym same ∙ sym (append-nil xs))
 
 -- two lists and their rests, in pairs
-pub paired : {X : Type 0} (a b c d : List X)
+pub pairs_of_appends : {X : Type 0} (a b c d : List X)
     → IsPermutation ((a ++ b) ++ (c ++ d)) ((a ++ c) ++ (b ++ d))
-paired a b c d = rw (append_assoc a b (c ++ d), append_assoc a c (b ++ d))
+pairs_of_appends a b c d = rw (append_assoc a b (c ++ d), append_assoc a c (b ++ d))
     (IsPermutation-append_right a _ _
     (IsPermutation-trans _ _ _ (IsPermutation-same _ _ (sym (append_assoc b c d)))
     (IsPermutation-trans _ _ _ (IsPermutation-append_left d _ _ (IsPermutation-append_comm b c))
@@ -71,7 +71,8 @@ behind (i ∷ ins) (f ∷ fs) h =
     record {
       rest = h.0.rest ++ more.rest;
       are = rw h.0.is at (IsPermutation-trans _ _ _ (IsPermutation-append_right (i.rows ++ h.0.rest)
-          _ _ more.are) (paired i.rows h.0.rest (all_rows (rows_of ins)) more.rest));
+          _ _ more.are) (pairs_of_appends i.rows h.0.rest (rows_together (stream_rows ins))
+          more.rest));
       none = grind (arith, and_parts, no-rest);
       later = λ keys out s b. every-append
           (λ y. IsBeforeNone keys y out) h.0.rest more.rest

@@ -1,6 +1,6 @@
 -- What each kind gave by the end of a run is the first of what it makes where nobody closes an
 -- input.
-use Rattle.plan_meaning.proofs.Prelude.{Bool, IsPermutation, IsSorted, List, Some, [], ap, ap₂, arith, drop, false, filter, inl, inr, is_lt, leb, length, map, refl, subst, suc, sym, take, true, zero, ℕ, ◌&&◌, ◌++◌, ◌+◌, ◌<◌, ◌==◌, ◌||◌, ◌∙◌, ◌∷◌, ◌≡◌, ◌≤◌, ◌⊎◌, AllByRecursion, AllZip, InOrder, IsPermutation-append_comm, IsPermutation-append_left, IsPermutation-append_right, IsPermutation-refl, IsPermutation-same, IsPermutation-trans, IsSortOf, KeyPair, Row, SortKey, Span, Spec, and_from, and_parts, append-nil, append_assoc, both_ways, cases_lt, drop-append-le, enough, eqb-true, every-append, every-none, every-permuted, filter-append, holds, item_row, joined_rows, joined_rows-append, le-leb, length-append, length-drop, length_permutation, limited, list_all, map-append, numbers, or_left, or_right, order-from_sorted, order-front, order-joined, ordered, ordered-none, ordered-order, ordered-same, row_cmp, rows-ordered, sorted-from_order, take-append-le, Flow, ManyToOne, OneToOne, Part, Parts, Source, Stream, TwoToOne, all_certain, all_done, all_rows, any_done, any_needs, flow_rows, flows_of, rows_of, Gives, GivesHeld, GivesJoined, GivesLimited, GivesMerged, GivesPart, GivesResized, GivesThrough, HoldsBack, IsMergeOf, merged_rows, partial_rows, IsFront, Makes, is_certain, is_needed}
+use Rattle.plan_meaning.proofs.Imports.{Bool, IsPermutation, IsSorted, List, Some, [], ap, ap₂, arith, drop, false, filter, inl, inr, is_lt, leb, length, map, refl, subst, suc, sym, take, true, zero, ℕ, ◌&&◌, ◌++◌, ◌+◌, ◌<◌, ◌==◌, ◌||◌, ◌∙◌, ◌∷◌, ◌≡◌, ◌≤◌, ◌⊎◌, AllByRecursion, AllZip, InOrder, IsPermutation-append_comm, IsPermutation-append_left, IsPermutation-append_right, IsPermutation-refl, IsPermutation-same, IsPermutation-trans, IsSortOf, KeyPair, Row, SortKey, Span, Spec, and_from, and_parts, append-nil, append_assoc, both_ways, cases_lt, drop-append-le, enough, eqb-true, every-append, every-none, every-permuted, filter-append, holds, item_row, joined_rows, joined_rows-append, le-leb, length-append, length-drop, length_permutation, limited, list_all, map-append, numbers, or_left, or_right, order-from_sorted, order-front, order-joined, ordered, ordered-none, ordered-order, ordered-same, row_cmp, rows-ordered, sorted-from_order, take-append-le, Flow, ManyToOne, OneToOne, SourceRows, RowsOfSources, Source, Stream, TwoToOne, all_certain, all_done, rows_together, any_done, any_needs, flow_rows, flows_of, stream_rows, Gives, GivesHeld, GivesJoined, GivesLimited, GivesMerged, GivesSource, GivesResized, GivesThrough, HoldsBack, IsMergeOf, merged_rows, partial_rows, IsFront, MakesRows, is_certain, is_needed}
 use Rattle.plan_meaning.proofs.Fronts.{Behind, behind, certain-inputs, needed-inputs, no-rest}
 use Rattle.query_model.specs.declared.processor_spec.Spec.TheVariants as spec
 
@@ -16,7 +16,7 @@ pub record CompletesKind (M : List (List Row) → List (List Row) → Type 0) (c
   pub makes : M (flow_rows fs) lists
   pub fronts : AllZip IsFront outs (flows_of certain needs lists)
 
-one-to-one : (parts : Parts) (s : Spec) {R : Stream → Stream → Type 0}
+one-to-one : (parts : RowsOfSources) (s : Spec) {R : Stream → Stream → Type 0}
     {M : List Row → List Row → Type 0}
     → ((i o : Stream) (f : Flow) → R i o → IsFront i f
     → CompletesOne (M f.rows) (is_certain parts s (f ∷ [])) (is_needed parts s (f ∷ [])) o)
@@ -26,7 +26,7 @@ one-to-one parts s step (i ∷ []) (o ∷ []) (f ∷ []) r z = let w = step i o 
     record { lists = w.out ∷ []; makes = w.makes; fronts = (w.front, tt) }
 one-to-one parts s step ins outs fs r z = grind arith
 
-two-to-one : (parts : Parts) (s : Spec) {R : Stream → Stream → Stream → Type 0}
+two-to-one : (parts : RowsOfSources) (s : Spec) {R : Stream → Stream → Stream → Type 0}
     {M : List Row → List Row → List Row → Type 0}
     → ((l r o : Stream) (f g : Flow) → R l r o → IsFront l f → IsFront r g
     → CompletesOne (M f.rows g.rows) (is_certain parts s (f ∷ g ∷ []))
@@ -38,7 +38,7 @@ two-to-one parts s step (l ∷ r ∷ []) (o ∷ []) (f ∷ g ∷ []) q z = let w
     record { lists = w.out ∷ []; makes = w.makes; fronts = (w.front, tt) }
 two-to-one parts s step ins outs fs q z = grind arith
 
-many-to-one : (parts : Parts) (s : Spec) {R : List Stream → Stream → Type 0}
+many-to-one : (parts : RowsOfSources) (s : Spec) {R : List Stream → Stream → Type 0}
     {M : List (List Row) → List Row → Type 0}
     → ((ins : List Stream) (o : Stream) (fs : List Flow) → R ins o → AllZip IsFront ins fs
     → CompletesOne (M (flow_rows fs)) (is_certain parts s fs) (is_needed parts s fs) o)
@@ -48,7 +48,7 @@ many-to-one parts s step ins (o ∷ []) fs r z = let w = step ins o fs r z in
     record { lists = w.out ∷ []; makes = w.makes; fronts = (w.front, tt) }
 many-to-one parts s step ins outs fs r z = absurd r
 
-source : (parts : Parts) (s : Spec) {P : Stream → Type 0} {M : List Row → Type 0}
+source : (parts : RowsOfSources) (s : Spec) {P : Stream → Type 0} {M : List Row → Type 0}
     → ((o : Stream) → P o → CompletesOne M (is_certain parts s []) (is_needed parts s []) o)
     → (ins outs : List Stream) (fs : List Flow) → Source P ins outs → AllZip IsFront ins fs
     → CompletesKind (Source M) (is_certain parts s fs) (is_needed parts s fs) fs outs
@@ -136,11 +136,11 @@ limit span i o f g h =
 
 -- each output but the first stays as it is
 stand-still : (c n : Bool) (outs : List Stream) → (any_done outs ≡ true → c ≡ true)
-    → (0 < length (all_rows (rows_of outs)) → n ≡ true)
-    → AllZip IsFront outs (flows_of c n (rows_of outs))
+    → (0 < length (rows_together (stream_rows outs)) → n ≡ true)
+    → AllZip IsFront outs (flows_of c n (stream_rows outs))
 stand-still c n [] h k = tt
 stand-still c n (o ∷ outs) h k =
-    let len = length-append o.rows (all_rows (rows_of outs)) in (
+    let len = length-append o.rows (rows_together (stream_rows outs)) in (
       record {
         rest = [];
         is = append-nil o.rows;
@@ -152,25 +152,25 @@ stand-still c n (o ∷ outs) h k =
     )
 
 resize : (ins outs : List Stream) (fs : List Flow) → GivesResized ins outs → AllZip IsFront ins fs
-    → CompletesKind (λ a b. IsPermutation (all_rows a) (all_rows b)) (all_certain fs) (any_needs fs)
-    fs outs
+    → CompletesKind (λ a b. IsPermutation (rows_together a) (rows_together b)) (all_certain fs)
+    (any_needs fs) fs outs
 resize ins [] fs g z = let some = g.some in absurd (omega (arith, some))
 resize ins (o ∷ outs) fs g z =
     let b : Behind ins fs = behind ins fs z in
     let extra : List Row = g.waits ++ b.rest in
     let total = length_permutation _ _ g.rows in
-    let len = length-append (o.rows ++ all_rows (rows_of outs)) g.waits in
-    let heads = length-append o.rows (all_rows (rows_of outs)) in
-    let passed : 0 < length (o.rows ++ all_rows (rows_of outs)) → any_needs fs ≡ true =
+    let len = length-append (o.rows ++ rows_together (stream_rows outs)) g.waits in
+    let heads = length-append o.rows (rows_together (stream_rows outs)) in
+    let passed : 0 < length (o.rows ++ rows_together (stream_rows outs)) → any_needs fs ≡ true =
     (λ some. needed-inputs ins fs z (omega (arith, some, total, len))) in
     record {
-      lists = (o.rows ++ extra) ∷ rows_of outs;
+      lists = (o.rows ++ extra) ∷ stream_rows outs;
       makes = IsPermutation-trans _ _ _ b.are
           (IsPermutation-trans _ _ _ (IsPermutation-append_left b.rest _ _ g.rows)
           (IsPermutation-trans _ _ _
-          (IsPermutation-same _ _ (append_assoc (o.rows ++ all_rows (rows_of outs)) g.waits
+          (IsPermutation-same _ _ (append_assoc (o.rows ++ rows_together (stream_rows outs)) g.waits
           b.rest))
-          (put-first o.rows (all_rows (rows_of outs)) extra)));
+          (put-first o.rows (rows_together (stream_rows outs)) extra)));
       fronts = grind (arith, or_left, append-nil, certain-inputs, stand-still, or_right);
     }
   where
@@ -179,7 +179,7 @@ resize ins (o ∷ outs) fs g z =
         (IsPermutation-append_right a _ _ (IsPermutation-append_comm b e))
 
 pub done-rows : (ins : List Stream) (fs : List Flow) → AllZip IsFront ins fs → all_done ins ≡ true
-    → rows_of ins ≡ flow_rows fs
+    → stream_rows ins ≡ flow_rows fs
 done-rows (i ∷ ins) (f ∷ fs) h e = let both = and_parts _ _ e in
     ap₂ (λ a b. a ∷ b) (h.0.all both.0) (done-rows ins fs h.1 both.1)
 done-rows ins fs h e = grind arith
@@ -262,7 +262,7 @@ joined pairs l r o f g k h j = go r.done refl
 -- the front of a list in order is in order
 front-sorted : (keys : List SortKey) (ins : List Stream) (fs : List Flow) → AllZip IsFront ins fs
     → AllByRecursion (λ (f : Flow). IsSorted (row_cmp keys) f.rows) fs
-    → AllByRecursion (λ rows. IsSorted (row_cmp keys) rows) (rows_of ins)
+    → AllByRecursion (λ rows. IsSorted (row_cmp keys) rows) (stream_rows ins)
 front-sorted keys (i ∷ ins) (f ∷ fs) z s = grind (
   arith,
   sorted-from_order,
@@ -333,13 +333,13 @@ merged keys ins o fs k z =
         (every-none (λ y x. is_lt (row_cmp keys y x) ≡ false) b.rest)
 
 -- a part's source gives the first of its rows
-pub part-front : (part : Part) (o : Stream) → GivesPart part o
+pub part-front : (part : SourceRows) (o : Stream) → GivesSource part o
     → IsFront o (record { rows = part.rows; certain = part.valid; needs = true })
 part-front part o p = grind arith
 
-pub complete-kind : (parts : Parts) (s : Spec) (ins outs : List Stream) (fs : List Flow)
+pub complete-kind : (parts : RowsOfSources) (s : Spec) (ins outs : List Stream) (fs : List Flow)
     → Gives parts s ins outs → AllZip IsFront ins fs
-    → CompletesKind (Makes parts s) (is_certain parts s fs) (is_needed parts s fs) fs outs
+    → CompletesKind (MakesRows parts s) (is_certain parts s fs) (is_needed parts s fs) fs outs
 complete-kind parts (spec.Csv part) ins outs fs g z =
     source parts (spec.Csv part) (λ o p. record {
       out = (parts (spec.Csv part)).rows;
@@ -380,10 +380,11 @@ complete-kind parts (spec.PartialAggregate p) ins outs fs g z =
     (λ rows. (partial_rows p rows, IsPermutation-refl _))) ins outs fs g z
 complete-kind parts (spec.MergeAggregate p) ins outs fs g z =
     many-to-one parts (spec.MergeAggregate p) (λ is o l r h. held _
-    (IsPermutation (merged_rows p (all_rows (flow_rows l))))
+    (IsPermutation (merged_rows p (rows_together (flow_rows l))))
     (all_done is) (all_certain l) (certain-inputs is l h)
-    (λ e rows m. subst (λ k. IsPermutation (merged_rows p (all_rows k)) rows) (done-rows is l h e)
-    m) (merged_rows p (all_rows (flow_rows l)), IsPermutation-refl _) o r) ins outs fs g z
+    (λ e rows m. subst (λ k. IsPermutation (merged_rows p (rows_together k)) rows)
+    (done-rows is l h e) m) (merged_rows p (rows_together (flow_rows l)), IsPermutation-refl _) o r)
+    ins outs fs g z
 complete-kind parts (spec.HashJoin join) ins outs fs g z =
     two-to-one parts (spec.HashJoin join) (joined join.pairs) ins outs fs g z
 complete-kind parts (spec.Sort order) ins outs fs g z =

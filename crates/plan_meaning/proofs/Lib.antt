@@ -1,4 +1,4 @@
-pub mod Prelude
+pub mod Imports
 pub mod Zips
 pub mod Fronts
 pub mod KindLaws

@@ -1,5 +1,5 @@
 -- The meaning of a plan is the answer of its query.
-use Rattle.plan_meaning.proofs.Prelude.{Bool, IsPermutation, IsSorted, List, None, Option, Some, [], ap, ap₂, arith, cond, false, filter, flat_map, inl, inr, length, map, refl, subst, suc, sym, true, zero, ℕ, ◌&&◌, ◌++◌, ◌+◌, ◌<◌, ◌||◌, ◌∙◌, ◌∷◌, ◌≡◌, ◌⊎◌, AggCall, AllByRecursion, AllZip, Cond, Expr, GroupSpec, IsPermutation-append, IsPermutation-filter, IsPermutation-joined_rows, IsPermutation-map, IsPermutation-same, IsPermutation-trans, Row, SortKey, SortSpec, Span, Spec, StateCall, and_from, and_parts, append-nil, both_ways, combine_of, count_up, filter-append, groups_or_default, holds, item_row, joined_rows, joint_node, lane_nodes, leb-true, length-append, length-map, length_permutation, limited, list_all, map-append, merged_groups, merged_in_any_order, or_cases, or_left, or_right, row_cmp, rows_where, source_nodes, Flow, Parts, all_certain, all_rows, any_needs, flow_rows, IsNoLimit, IsPlan, IsSource, JoinsSources, PlanJoin, PlanShape, SelectPlan, StopsEarly, all_valid, body_nodes, filter_nodes, filter_pulls, gather_nodes, gather_pulls, grouped, grouped_of, join_pulls, join_valid, joined_from, lane_steps, limit_nodes, made_pulls, made_rows, needed_valid, plain, plan_keys, plan_pulls, plan_valid, pulls, pulls_from, read_nodes, read_rows, read_steps, read_valid, select_steps, shape_nodes, shape_pulls, shape_rows, sort_nodes, sort_pulls, sources_rows, valid_from, calls_from, merged_rows, partial_rows, Makes, is_certain, is_needed}
+use Rattle.plan_meaning.proofs.Imports.{Bool, IsPermutation, IsSorted, List, None, Option, Some, [], ap, ap₂, arith, cond, false, filter, flat_map, inl, inr, length, map, refl, subst, suc, sym, true, zero, ℕ, ◌&&◌, ◌++◌, ◌+◌, ◌<◌, ◌||◌, ◌∙◌, ◌∷◌, ◌≡◌, ◌⊎◌, AggCall, AllByRecursion, AllZip, Cond, Expr, GroupSpec, IsPermutation-append, IsPermutation-filter, IsPermutation-joined_rows, IsPermutation-map, IsPermutation-same, IsPermutation-trans, Row, SortKey, SortSpec, Span, Spec, StateCall, and_from, and_parts, append-nil, both_ways, combine_of, count_up, filter-append, groups_or_default, holds, item_row, joined_rows, joint_node, lane_nodes, leb-true, length-append, length-map, length_permutation, limited, list_all, map-append, merged_groups, merged_in_any_order, or_cases, or_left, or_right, row_cmp, rows_where, source_nodes, Flow, RowsOfSources, all_certain, rows_together, any_needs, flow_rows, IsNoLimit, IsPlan, IsSourceSpec, JoinsSources, PlanJoin, PlanShape, SelectPlan, StopsEarly, all_valid, body_nodes, filter_nodes, filter_pulls, gather_nodes, gather_pulls, grouped, grouped_of, join_pulls, join_valid, joined_from, lane_steps, limit_nodes, made_pulls, made_rows, needed_valid, plain, plan_keys, plan_pulls, plan_valid, pulls, pulls_from, read_nodes, read_rows, read_steps, read_valid, select_steps, shape_nodes, shape_pulls, shape_rows, sort_nodes, sort_pulls, sources_rows, valid_from, calls_from, merged_rows, partial_rows, MakesRows, is_certain, is_needed}
 use Rattle.plan_meaning.proofs.Blocks.{Alone, Block, Both, Form, LaneMade, Spread, alone-to, block-so, block-then, form-block, joint-block, lanes-block, no-block, resize-behind, resize-block, sources-block}
 use Rattle.plan_meaning.proofs.Fitting.{read-is}
 use Rattle.query_model.specs.declared.processor_spec.Spec.TheVariants as spec
@@ -61,7 +61,8 @@ or-default lone default xs ys h = grind (arith, length_permutation)
 
 -- the groups of parts of the rows, merged
 merged-groups : (g : GroupSpec) (lists : List (List Row)) (rows states : List Row)
-    → IsPermutation rows (all_rows lists) → IsPermutation (flat_map (partial_rows g) lists) states
+    → IsPermutation rows (rows_together lists)
+    → IsPermutation (flat_map (partial_rows g) lists) states
     → IsPermutation (grouped_of g rows) (merged_rows g states)
 merged-groups g lists rows states all some =
     let keys : List ℕ = count_up (length g.keys) in
@@ -76,7 +77,7 @@ merged-groups g lists rows states all some =
 record SortedLanes (keys : List SortKey) (lanes : ℕ) (rows : List Row) (c : Bool)
     (flows : List Flow) : Type 0 where
   pub count : length flows ≡ lanes
-  pub same : IsPermutation rows (all_rows (flow_rows flows))
+  pub same : IsPermutation rows (rows_together (flow_rows flows))
   pub in_order : AllByRecursion (λ rows. IsSorted (row_cmp keys) rows) (flow_rows flows)
   pub certain : all_certain flows ≡ true → c ≡ true
   pub needs : list_all (λ (f : Flow). f.certain || f.needs) flows ≡ true → c ≡ true
@@ -85,16 +86,17 @@ record GroupedLanes (g : GroupSpec) (lanes : ℕ) (rows : List Row) (c : Bool)
     (flows : List Flow) : Type 0 where
   pub count : length flows ≡ lanes
   pub lists : List (List Row)
-  pub same : IsPermutation rows (all_rows lists)
-  pub made : IsPermutation (flat_map (partial_rows g) lists) (all_rows (flow_rows flows))
+  pub same : IsPermutation rows (rows_together lists)
+  pub made : IsPermutation (flat_map (partial_rows g) lists) (rows_together (flow_rows flows))
   pub certain : all_certain flows ≡ true → c ≡ true
 
-module _ (parts : Parts) where
+module _ (parts : RowsOfSources) where
   -- the rows of lanes of a kind that makes the same of all rows as of the lanes' rows together
   lanes-rows : (s : Spec) (make : List Row → List Row) → make [] ≡ []
       → ((xs ys : List Row) → make (xs ++ ys) ≡ make xs ++ make ys)
-      → ((i o : List Row) → Makes parts s (i ∷ []) (o ∷ []) → o ≡ make i) → (ys zs : List Flow)
-      → AllZip (LaneMade parts s) ys zs → make (all_rows (flow_rows ys)) ≡ all_rows (flow_rows zs)
+      → ((i o : List Row) → MakesRows parts s (i ∷ []) (o ∷ []) → o ≡ make i) → (ys zs : List Flow)
+      → AllZip (LaneMade parts s) ys zs → make (rows_together (flow_rows ys))
+      ≡ rows_together (flow_rows zs)
   lanes-rows s make none joins is (y ∷ ys) (z ∷ zs) h =
       search (arith, lanes-rows s make none joins is ys zs h.1)
   lanes-rows s make none joins is ys zs h = grind arith
@@ -120,7 +122,7 @@ module _ (parts : Parts) where
 
   lanes-sorted : (order : SortSpec) (ys zs : List Flow)
       → AllZip (LaneMade parts (spec.Sort order)) ys zs
-      → SortedLanes order.keys (length zs) (all_rows (flow_rows ys)) (all_certain ys) zs
+      → SortedLanes order.keys (length zs) (rows_together (flow_rows ys)) (all_certain ys) zs
   lanes-sorted order (y ∷ ys) (z ∷ zs) h =
       search (
         arith,
@@ -135,18 +137,18 @@ module _ (parts : Parts) where
 
   lanes-grouped : (g : GroupSpec) (ys zs : List Flow)
       → AllZip (LaneMade parts (spec.PartialAggregate g)) ys zs
-      → IsPermutation (flat_map (partial_rows g) (flow_rows ys)) (all_rows (flow_rows zs))
+      → IsPermutation (flat_map (partial_rows g) (flow_rows ys)) (rows_together (flow_rows zs))
   lanes-grouped g (y ∷ ys) (z ∷ zs) h = IsPermutation-append _ _ _ _ h.0.0
       (lanes-grouped g ys zs h.1)
   lanes-grouped g ys zs h = grind arith
 
 -- ---- steps of a plan
 
-module _ {parts : Parts} {unlimited : Type 0} where
+module _ {parts : RowsOfSources} {unlimited : Type 0} where
   mapped-block : (s : Spec) (rank lanes : ℕ) (make : List Row → List Row) → IsNoLimit s
       → make [] ≡ [] → ((xs ys : List Row) → make (xs ++ ys) ≡ make xs ++ make ys)
       → ((xs ys : List Row) → IsPermutation xs ys → IsPermutation (make xs) (make ys))
-      → ((i o : List Row) → Makes parts s (i ∷ []) (o ∷ []) → o ≡ make i)
+      → ((i o : List Row) → MakesRows parts s (i ∷ []) (o ∷ []) → o ≡ make i)
       → ((l : List Flow) → is_certain parts s l ≡ all_certain l)
       → ((l : List Flow) → is_needed parts s l ≡ any_needs l) → (rows : List Row) (c n : Bool)
       → Block parts unlimited (lane_nodes s rank 0 lanes) (Spread lanes rows c n)
@@ -178,7 +180,7 @@ module _ {parts : Parts} {unlimited : Type 0} where
       (map-append (item_row items)) (IsPermutation-map (item_row items)) (λ i o e. e) (λ l. refl)
       (λ l. refl) rows c n
 
-  first-sources : (sources : List Spec) → AllByRecursion IsSource sources
+  first-sources : (sources : List Spec) → AllByRecursion IsSourceSpec sources
       → Block parts unlimited (source_nodes 0 sources) (λ l. l ≡ [])
       (Spread (length sources) (sources_rows parts sources) (all_valid parts sources) true)
       (λ k. 0)
@@ -235,7 +237,7 @@ module _ {parts : Parts} {unlimited : Type 0} where
           }
 
   read-block : (sources : List Spec) (join : Option PlanJoin) (lanes : ℕ) → 0 < lanes
-      → AllByRecursion IsSource sources → JoinsSources join
+      → AllByRecursion IsSourceSpec sources → JoinsSources join
       → Block parts unlimited (read_nodes sources join lanes) (λ l. l ≡ [])
       (Spread lanes (read_rows parts sources join) (read_valid parts sources join)
       (join_valid parts join)) (λ k. join_pulls k parts sources join)
@@ -321,11 +323,11 @@ module _ {parts : Parts} {unlimited : Type 0} where
       (One (grouped_of g rows) c c) (λ k. 0) (λ u. tt) (λ l h. h.count)
       (λ t out h makes. record {
         same = IsPermutation-trans _ _ _
-            (merged-groups g h.lists rows (all_rows (flow_rows t)) h.same h.made) makes;
+            (merged-groups g h.lists rows (rows_together (flow_rows t)) h.same h.made) makes;
         certain = h.certain;
         needs = h.certain;
       })
-      (λ k t u told h. ap (λ b. cond b (length (all_rows (flow_rows t))) 0) told.no_merge))
+      (λ k t u told h. ap (λ b. cond b (length (rows_together (flow_rows t))) 0) told.no_merge))
 
   -- what is made of the filtered rows
   shape-block : (shape : PlanShape) (order : Option SortSpec) (lanes : ℕ) (rows : List Row)
@@ -373,7 +375,7 @@ abbrev SelectOrdered : SelectPlan → List Row → (v n : Bool) → Flow → Typ
 SelectOrdered p rows v n = Ordered (plan_keys p.order) (made_rows p rows) v
     (needed_valid p.shape p.order v n)
 
-limit-block : (parts : Parts) (p : SelectPlan) (rows : List Row) (v n : Bool)
+limit-block : (parts : RowsOfSources) (p : SelectPlan) (rows : List Row) (v n : Bool)
     (limit : Option Span) → p.limit ≡ limit
     → Block parts (p.limit ≡ None) (limit_nodes limit) (Alone (SelectOrdered p rows v n))
     (Alone (SelectMade p rows v n)) (λ k. 0)
@@ -390,7 +392,7 @@ limit-block parts p rows v n limit e = grind (
 )
 
 -- What the steps in the lanes make of the rows that are read, whatever stood in FROM.
-pub lane-block : (parts : Parts) (p : SelectPlan) (rows : List Row) (v n : Bool)
+pub lane-block : (parts : RowsOfSources) (p : SelectPlan) (rows : List Row) (v n : Bool)
     → Block parts (p.limit ≡ None) (lane_steps p) (Spread p.lanes rows v n)
     (Alone (SelectMade p rows v n)) (λ k. made_pulls k p rows)
 lane-block parts p rows v n =
@@ -402,7 +404,7 @@ lane-block parts p rows v n =
 
 -- What the steps of a SELECT make of the rows that stand at the open ends in the place of its
 -- FROM table's sources.
-pub select-block : (parts : Parts) (p : SelectPlan) (ends : ℕ) (left : List Row) (v : Bool)
+pub select-block : (parts : RowsOfSources) (p : SelectPlan) (ends : ℕ) (left : List Row) (v : Bool)
     → 0 < p.lanes → JoinsSources p.join
     → Block parts (p.limit ≡ None) (select_steps ends p) (Spread ends left v true)
     (Alone (SelectMade p (joined_from parts p.join left) (valid_from parts p.join v)
@@ -414,13 +416,13 @@ select-block parts p ends left v some js =
     (join_valid parts p.join))
 
 -- the one end of the plan
-abbrev pub PlanMade : Parts → SelectPlan → Flow → Type 0
+abbrev pub PlanMade : RowsOfSources → SelectPlan → Flow → Type 0
 PlanMade parts p = SelectMade p (read_rows parts p.sources p.join) (plan_valid parts p)
     (join_valid parts p.join)
 
 -- What all nodes but the collector make. Where there is no limit, the nodes of a kind together pull
 -- as many rows as the plan says.
-pub plan-block : (parts : Parts) (p : SelectPlan) → IsPlan p
+pub plan-block : (parts : RowsOfSources) (p : SelectPlan) → IsPlan p
     → Block parts (p.limit ≡ None) (body_nodes p) (λ l. l ≡ []) (Alone (PlanMade parts p))
     (λ k. plan_pulls k parts p)
 plan-block parts p is =

@@ -1,5 +1,5 @@
 -- What the plan of a checked query makes of rows is what the query selects.
-use Rattle.plan_meaning.proofs.Prelude.{List, None, Option, Some, [], ap, ap₂, arith, false, is_none, length, map, refl, suc, sym, take, true, zero, ℕ, ◌++◌, ◌+◌, ◌∙◌, ◌∷◌, ◌≡◌, ◌≤◌, AggCall, AggOp, AllByRecursion, Call, Checked, ColumnType, Database, Expr, ExprOf, Grouped, Grouping, IsAnswer, Plain, Row, Shape, Text, append_assoc, both_ways, call_of, count_up, filter-map, get_or_at, grouped_by, grouped_rows, groups, item_row, length-append, length-map, map-append, map-map, selected_rows, take_at, take_more, value_at, value_of, values_at, HasCalls, IsCall, IsPlanOf, call_arguments, columns_of, group_spec, grouped_of, shape_of, state_of, Parts, PlanAnswers, SelectPlan, shape_rows, calls_from, is_count}
+use Rattle.plan_meaning.proofs.Imports.{List, None, Option, Some, [], ap, ap₂, arith, false, is_none, length, map, refl, suc, sym, take, true, zero, ℕ, ◌++◌, ◌+◌, ◌∙◌, ◌∷◌, ◌≡◌, ◌≤◌, AggCall, AggOp, AllByRecursion, Call, Checked, ColumnType, Database, Expr, ExprOf, Grouped, Grouping, IsAnswer, Plain, Row, Shape, Text, append_assoc, both_ways, call_of, count_up, filter-map, get_or_at, grouped_by, grouped_rows, groups, item_row, length-append, length-map, map-append, map-map, selected_rows, take_at, take_more, value_at, value_of, values_at, HasCalls, IsCall, IsPlanOf, call_arguments, column_items, group_spec, grouped_of, shape_of, state_call, RowsOfSources, PlanAnswers, SelectPlan, shape_rows, calls_from, is_count}
 use Rattle.chunk_data.specs.declared.typed_value.ColumnType.TheVariants as column
 use Rattle.query_model.specs.declared.query.AggOp.TheVariants as agg
 use Rattle.query_model.specs.declared.query.ExprOf.TheVariants as expr
@@ -25,7 +25,7 @@ first-values (suc n) row le =
     values-append [] bs row = refl
     values-append (x ∷ xs) bs row = ap (λ l. value_at row x ∷ l) (values-append xs bs row)
 
-columns-values : (cs : List ℕ) (row : Row) → map (λ (e : Expr). value_of e row) (columns_of cs)
+columns-values : (cs : List ℕ) (row : Row) → map (λ (e : Expr). value_of e row) (column_items cs)
     ≡ values_at cs row
 unfolding value_of
 columns-values [] row = refl
@@ -37,7 +37,7 @@ values-count (c ∷ cs) row = ap suc (values-count cs row)
 
 -- the keys of the row of keys and arguments
 keys-kept : (cs : List ℕ) (es : List Expr) (row : Row)
-    → values_at (count_up (length cs)) (item_row (columns_of cs ++ es) row) ≡ values_at cs row
+    → values_at (count_up (length cs)) (item_row (column_items cs ++ es) row) ≡ values_at cs row
 keys-kept cs es row =
     search (arith, map-append, columns-values, values-count, first-values, length-append, take_at)
 
@@ -55,7 +55,7 @@ over all x = record { op = x.op; arg = λ (r : Row). x.arg (item_row all r) }
 abbrev AreKept : List ColumnType → List Expr → List (AggCall ℕ) → Type 0
 AreKept types front calls =
     map (over (front ++ call_arguments calls))
-    (map call_of (calls_from (length front) (map (state_of types) calls))) ≡ map call_of calls
+    (map call_of (calls_from (length front) (map (state_call types) calls))) ≡ map call_of calls
 
 calls-kept : (types : List ColumnType) (front : List Expr) (calls : List (AggCall ℕ))
     → AllByRecursion IsCall calls → AreKept types front calls
@@ -74,18 +74,18 @@ calls-kept types front (call ∷ calls) h =
 -- the groups of the rows of keys and arguments
 groups-kept : (types : List ColumnType) (keys : List ℕ) (calls : List (AggCall ℕ)) (rows : List Row)
     → AllByRecursion IsCall calls
-    → groups (count_up (length keys)) (calls_from (length keys) (map (state_of types) calls))
-    (map (item_row (columns_of keys ++ call_arguments calls)) rows) ≡ groups keys calls rows
+    → groups (count_up (length keys)) (calls_from (length keys) (map (state_call types) calls))
+    (map (item_row (column_items keys ++ call_arguments calls)) rows) ≡ groups keys calls rows
 groups-kept types keys calls rows h =
-    let all : List Expr = columns_of keys ++ call_arguments calls in
-    let count : length (columns_of keys) ≡ length keys = length-map keys (λ c. expr.Column c) in
+    let all : List Expr = column_items keys ++ call_arguments calls in
+    let count : length (column_items keys) ≡ length keys = length-map keys (λ c. expr.Column c) in
     grouped_by-map (item_row all) (values_at (count_up (length keys)))
-    (map call_of (calls_from (length keys) (map (state_of types) calls))) rows
+    (map call_of (calls_from (length keys) (map (state_call types) calls))) rows
     ∙ ap₂ (λ key cs. grouped_by key cs rows) (λ i r. keys-kept keys (call_arguments calls) r i)
-    (ap (λ n. map (over all) (map call_of (calls_from n (map (state_of types) calls)))) (sym count)
-    ∙ calls-kept types (columns_of keys) calls h)
+    (ap (λ n. map (over all) (map call_of (calls_from n (map (state_call types) calls))))
+    (sym count) ∙ calls-kept types (column_items keys) calls h)
 
-picks-kept : (picks : List ℕ) (rows : List Row) → map (item_row (columns_of picks)) rows ≡ map
+picks-kept : (picks : List ℕ) (rows : List Row) → map (item_row (column_items picks)) rows ≡ map
     (values_at picks) rows
 picks-kept picks rows = ap (λ f. map f rows) (λ i r. columns-values picks r i)
 
@@ -93,7 +93,8 @@ picks-kept picks rows = ap (λ f. map f rows) (λ i r. columns-values picks r i)
 pub groups-selected : (g : Grouping) (types : List ColumnType) (n : ℕ) (rows : List Row)
     → AllByRecursion IsCall g.calls
     → grouped_of (group_spec g types n)
-    (map (item_row (columns_of g.keys ++ call_arguments g.calls)) rows) ≡ grouped_rows g types rows
+    (map (item_row (column_items g.keys ++ call_arguments g.calls)) rows)
+    ≡ grouped_rows g types rows
 groups-selected g types n rows h =
     grind (arith, map-map, length-map, groups-kept types g.keys g.calls rows h)
 
@@ -104,6 +105,6 @@ shape-selects (Plain items) types n rows h = refl
 shape-selects (Grouped g) types n rows h = search (arith, picks-kept, groups-selected)
 
 -- An answer of a query's plan is an answer of the query.
-pub query-answers : (q : Checked) (db : Database) (parts : Parts) (p : SelectPlan) (rows : List Row)
-    → IsPlanOf q db parts p → PlanAnswers parts p rows → IsAnswer q db rows
+pub query-answers : (q : Checked) (db : Database) (parts : RowsOfSources) (p : SelectPlan)
+    (rows : List Row) → IsPlanOf q db parts p → PlanAnswers parts p rows → IsAnswer q db rows
 query-answers q db parts p rows is a = search (arith, shape-selects)

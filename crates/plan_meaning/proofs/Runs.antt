@@ -1,5 +1,5 @@
 -- The lists of a graph, which was made of a list of nodes, are a run of that list.
-use Rattle.plan_meaning.proofs.Prelude.{All, List, [], ap, arith, length, map, refl, suc, sym, ℕ, ◌++◌, ◌+◌, ◌∙◌, ◌∷◌, ◌≡◌, length-map, AllFitDraft, AllZip, Draft, DraftNode, FitsDraft, Kind, NodePort, Wire, all-back, all-front, consumer_of, given-map, length-append, ports-length, ports_of, producer_of, run-length, taken-map, taken_by, wires_to, with_node, with_nodes, AllPull, EachGives, Pulls, Runs, if_kind, pulled_by, pulled_rows, Parts, Stream, all_rows, rows_of}
+use Rattle.plan_meaning.proofs.Imports.{All, List, [], ap, arith, length, map, refl, suc, sym, ℕ, ◌++◌, ◌+◌, ◌∙◌, ◌∷◌, ◌≡◌, length-map, AllFitDraft, AllZip, Draft, DraftNode, FitsDraft, Kind, NodePort, Wire, all-back, all-front, consumer_of, given-map, length-append, ports-length, ports_of, producer_of, run-length, taken-map, taken_by, wires_to, with_node, with_nodes, AllPull, EachGives, Pulls, PlanRuns, if_kind, pulled_by_nodes, pulled_rows, RowsOfSources, Stream, rows_together, stream_rows}
 
 -- the wires so far stay
 wires-stay : (P : Wire → Type 0) (nodes : List DraftNode) (d : Draft)
@@ -36,13 +36,15 @@ pub next-node : (node : DraftNode) (d : Draft)
 next-node node d = length-append d.ranks (node.rank ∷ []) ∙ omega arith
 
 -- a run, with what its nodes pulled
-pub record RunsOf (parts : Parts) (pulled : NodePort → Stream) (n : ℕ) (nodes : List DraftNode)
+pub record RunsOf (parts : RowsOfSources) (pulled : NodePort → Stream) (n : ℕ)
+    (nodes : List DraftNode)
     (before after : List Stream) : Type 0 where
-  pub run : Runs parts nodes before after
-  pub counted : (k : Kind) → pulled_by parts k nodes before after run ≡ pulled_rows k n nodes pulled
+  pub run : PlanRuns parts nodes before after
+  pub counted : (k : Kind) → pulled_by_nodes parts k nodes before after run
+      ≡ pulled_rows k n nodes pulled
 
-pub runs : (parts : Parts) (pulled pushed : NodePort → Stream) (nodes : List DraftNode) (d : Draft)
-    → AllFitDraft nodes d → EachGives parts (length d.ranks) nodes pulled pushed
+pub runs : (parts : RowsOfSources) (pulled pushed : NodePort → Stream) (nodes : List DraftNode)
+    (d : Draft) → AllFitDraft nodes d → EachGives parts (length d.ranks) nodes pulled pushed
     → AllPull pulled pushed (with_nodes nodes d).wires → RunsOf parts pulled (length d.ranks) nodes
     (map pushed d.ends) (map pushed (with_nodes nodes d).ends)
 runs parts pulled pushed [] d f g w = record { run = refl; counted = λ k. refl }
@@ -65,6 +67,6 @@ runs parts pulled pushed (node ∷ nodes) d f g w =
       );
       counted =
           λ k. ap (λ m. if_kind k node
-          (length (all_rows (rows_of (map pulled (ports_of n 0 node.takes))))) + m) (more.counted k
-          ∙ ap (λ j. pulled_rows k j nodes pulled) next);
+          (length (rows_together (stream_rows (map pulled (ports_of n 0 node.takes))))) + m)
+          (more.counted k ∙ ap (λ j. pulled_rows k j nodes pulled) next);
     }

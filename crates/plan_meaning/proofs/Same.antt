@@ -1,5 +1,5 @@
 -- Nodes of one form make the same graph and give the same.
-use Rattle.plan_meaning.proofs.Prelude.{List, Some, [], ap, arith, drop, get_or, length, map, refl, subst, suc, sym, ℕ, ◌+◌, ◌<◌, ◌∙◌, ◌∷◌, ◌≡◌, ◌≤◌, AllFitEnds, ColumnType, Draft, DraftNode, FitsInput, NodePort, Spec, SpecForm, cond_form, every-weaker, formula, kind_of, ports_of, ranks_after, ranks_with, spec_form, unboxed, with_node, with_nodes, Parts, Stream, Gives, Types, FitFrom, MakesType, GivesIf, EachGivesIf, NodeForm, node_form, forms}
+use Rattle.plan_meaning.proofs.Imports.{List, Some, [], ap, arith, drop, get_or, length, map, refl, subst, suc, sym, ℕ, ◌+◌, ◌<◌, ◌∙◌, ◌∷◌, ◌≡◌, ◌≤◌, AllFitEnds, ColumnType, Draft, DraftNode, FitsInput, NodePort, Spec, SpecForm, cond_form, every-weaker, formula, kind_of, ports_of, ranks_after, ranks_with, spec_form, unboxed, with_node, with_nodes, RowsOfSources, Stream, Gives, Types, FitFrom, MakesType, GivesIf, EachGivesIf, NodeForm, node_form, forms}
 use Rattle.query_model.specs.declared.processor_spec.Spec.TheVariants as spec
 use Rattle.plan_meaning.proofs.Copies.{conds-same, items-same}
 
@@ -21,7 +21,7 @@ same-spec s t e = grind (arith, spec_of)
 pub kind-same : (s t : Spec) → spec_form s ≡ spec_form t → kind_of s ≡ kind_of t
 kind-same s t e = grind (arith, same-spec)
 
-gives-same : (parts : Parts) (s t : Spec) (ins outs : List Stream) → SameSpec s t
+gives-same : (parts : RowsOfSources) (s t : Spec) (ins outs : List Stream) → SameSpec s t
     → Gives parts s ins outs → Gives parts t ins outs
 gives-same parts (spec.Filter c) (spec.Filter d) ins outs e g = grind (arith, conds-same c d e)
 gives-same parts (spec.Expression items) (spec.Expression others) ins outs e g =
@@ -45,11 +45,14 @@ makes-same s t ins types e h = subst (λ x. MakesType x ins types) e h
 all-fit-same : (s t : Spec) (i : ℕ) (ins : List Stream) → SameSpec s t → FitFrom s i ins
     → FitFrom t i ins
 all-fit-same s t i [] e h = tt
-all-fit-same s t i (x ∷ ins) e h =
-    grind (arith, every-weaker, fits-same, all-fit-same s t (suc i) ins e h.1)
+all-fit-same s t i (x ∷ ins) e h = (
+  every-weaker (FitsInput (Some s) i) (FitsInput (Some t) i) (λ types. fits-same s t i types e)
+      x.types h.0,
+  all-fit-same s t (suc i) ins e h.1,
+)
 
-gives-if-same : (parts : Parts) (s t : Spec) (ins outs : List Stream) → spec_form s ≡ spec_form t
-    → GivesIf parts s ins outs → GivesIf parts t ins outs
+gives-if-same : (parts : RowsOfSources) (s t : Spec) (ins outs : List Stream) → spec_form s
+    ≡ spec_form t → GivesIf parts s ins outs → GivesIf parts t ins outs
 gives-if-same parts s t ins outs e g =
     search (arith, same-spec, gives-same, all-fit-same, every-weaker, makes-same)
 
@@ -107,7 +110,7 @@ after-same xs ys rs e =
     ∙ rest (ranks_with y rs)) xs ys e rs
 
 -- and keep the same promises
-pub each-same : (parts : Parts) (pulled pushed : NodePort → Stream) (n : ℕ)
+pub each-same : (parts : RowsOfSources) (pulled pushed : NodePort → Stream) (n : ℕ)
     (xs ys : List DraftNode) → forms xs ≡ forms ys
     → EachGivesIf parts n xs pulled pushed → EachGivesIf parts n ys pulled pushed
 each-same parts pulled pushed n xs ys e g =

@@ -1,6 +1,6 @@
 -- Where the types at the open ends fit each node, each chunk that a run pulled fits, and so each
 -- node gives what its kind promises.
-use Rattle.plan_meaning.proofs.Prelude.{Any, List, [], arith, length, map, replicate, subst, suc, sym, ℕ, ◌++◌, ◌∷◌, ◌≡◌, length-map, AllByRecursion, AllFitDraft, AllZip, Draft, DraftNode, NodePort, Spec, every-append, every-front, every-weaker, given-map, given_by, ports-length, ports_of, taken-map, taken_by, with_node, with_nodes, AllTyped, EachGivesIf, FitFrom, HasTypes, MakesType, Types, TypesFit, TypesNode, TypesTo, pulled_types, Parts, Stream, AllPull, EachGives, Pulls}
+use Rattle.plan_meaning.proofs.Imports.{Any, List, [], arith, length, map, replicate, subst, suc, sym, ℕ, ◌++◌, ◌∷◌, ◌≡◌, length-map, AllByRecursion, AllFitDraft, AllZip, Draft, DraftNode, NodePort, Spec, every-append, every-front, every-weaker, given-map, given_by, ports-length, ports_of, taken-map, taken_by, with_node, with_nodes, AllTyped, EachGivesIf, FitFrom, HasTypes, MakesType, Types, TypesFit, TypesNode, TypesTo, pulled_types, RowsOfSources, Stream, AllPull, EachGives, Pulls}
 use Rattle.plan_meaning.proofs.Runs.{next-node, node-pulls}
 use Rattle.plan_meaning.proofs.Zips.{zip-chain, zip-given, zip-taken}
 
@@ -32,7 +32,8 @@ made-typed s ins made (o ∷ outs) (suc n) e f h =
 made-typed s ins made outs n e f h = grind arith
 
 -- Where the types at the open ends fit each node, each node gives what its kind promises.
-pub each-typed : (parts : Parts) (pulled pushed : NodePort → Stream) (nodes : List DraftNode)
+pub each-typed : (parts : RowsOfSources) (pulled pushed : NodePort → Stream)
+    (nodes : List DraftNode)
     (d : Draft) (types : List Types) → AllFitDraft nodes d
     → AllZip HasTypes (map pushed d.ends) types → AllTyped nodes types
     → EachGivesIf parts (length d.ranks) nodes pulled pushed

@@ -9,8 +9,8 @@ use Rattle.plan_meaning.specs.Plans.{PlanShape, plain, grouped, PlanJoin, Select
 abbrev pub Count : Type 0
 Count = Spec → ℕ → ℕ
 
-abbrev pub counted : Count → List DraftNode → ℕ
-counted w nodes = sum_by (λ (n : DraftNode). w n.spec n.takes) nodes
+abbrev pub count_over : Count → List DraftNode → ℕ
+count_over w nodes = sum_by (λ (n : DraftNode). w n.spec n.takes) nodes
 
 -- 1 for each node, and 1 for each that is kept for it
 abbrev pub each_kept : Count

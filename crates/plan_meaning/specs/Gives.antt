@@ -1,12 +1,12 @@
 -- What each kind gives by the end of a run.
 use Rattle.std.specs.Prelude.{Bool, IsPermutation, IsSorted, List, Some, [], false, filter, length, map, true, ◌++◌, ◌<◌, ◌≡◌, ◌≤◌, ◌⊎◌}
 use Rattle.plan_meaning.specs.Prelude.{AllByRecursion, Contains, IsSortOf, KeyPair, Row, SortKey, Span, Spec, enough, holds, is_lt, item_row, joined_rows, limited, merged_rows, numbers, partial_rows, row_cmp}
-use Rattle.plan_meaning.specs.Streams.{ManyToOne, OneToNone, OneToOne, Part, Parts, Source, Stream, TwoToOne, all_done, all_rows, any_done, rows_of}
+use Rattle.plan_meaning.specs.Streams.{ManyToOne, OneToNone, OneToOne, RowsOfSources, Source, SourceRows, Stream, TwoToOne, all_done, any_done, rows_together, stream_rows}
 use Rattle.query_model.specs.declared.processor_spec.Spec.TheVariants as spec
 
 -- lists in order, merged
 pub record IsMergeOf (keys : List SortKey) (lists : List (List Row)) (out : List Row) : Type 0 where
-  pub same : IsPermutation (all_rows lists) out
+  pub same : IsPermutation (rows_together lists) out
   pub in_order : AllByRecursion (λ rows. IsSorted (row_cmp keys) rows) lists
       → IsSorted (row_cmp keys) out
 
@@ -18,15 +18,15 @@ pub record GivesFront (rows : List Row) (o : Stream) : Type 0 where
   pub is : o.rows ++ rest ≡ rows
   pub all : o.done ≡ true → o.rows ≡ rows
 
-pub record GivesPart (part : Part) (o : Stream) : Type 0 where
+pub record GivesSource (part : SourceRows) (o : Stream) : Type 0 where
   pub front : GivesFront part.rows o
   pub valid : o.done ≡ true → part.valid ≡ true
 
 -- the rows of a list's parts come in any order
-pub record GivesListed (list : Part) (o : Stream) : Type 0 where
+pub record GivesListed (list : SourceRows) (o : Stream) : Type 0 where
   pub order : List Row
   pub same : IsPermutation list.rows order
-  pub gives : GivesPart (record { rows = order; valid = list.valid }) o
+  pub gives : GivesSource (record { rows = order; valid = list.valid }) o
 
 -- it finishes its output only where its input is done
 pub record GivesThrough (make : List Row → List Row) (i o : Stream) : Type 0 where
@@ -43,7 +43,8 @@ pub record GivesLimited (span : Span) (i o : Stream) : Type 0 where
 pub record GivesResized (ins outs : List Stream) : Type 0 where
   pub some : 0 < length outs
   pub waits : List Row
-  pub rows : IsPermutation (all_rows (rows_of ins)) (all_rows (rows_of outs) ++ waits)
+  pub rows : IsPermutation (rows_together (stream_rows ins))
+      (rows_together (stream_rows outs) ++ waits)
   pub nothing_waits : any_done outs ≡ true → waits ≡ []
   pub inputs_done : any_done outs ≡ true → all_done ins ≡ true
 
@@ -77,17 +78,17 @@ HoldsBack keys out i = (i.done ≡ true)
 
 pub record GivesMerged (keys : List SortKey) (ins : List Stream) (o : Stream) : Type 0 where
   pub waits : List Row
-  pub rows : IsPermutation (all_rows (rows_of ins)) (o.rows ++ waits)
-  pub in_order : AllByRecursion (λ rows. IsSorted (row_cmp keys) rows) (rows_of ins)
+  pub rows : IsPermutation (rows_together (stream_rows ins)) (o.rows ++ waits)
+  pub in_order : AllByRecursion (λ rows. IsSorted (row_cmp keys) rows) (stream_rows ins)
       → IsSorted (row_cmp keys) o.rows
-  pub before_waits : AllByRecursion (λ rows. IsSorted (row_cmp keys) rows) (rows_of ins)
+  pub before_waits : AllByRecursion (λ rows. IsSorted (row_cmp keys) rows) (stream_rows ins)
       → AllByRecursion (λ y. AllByRecursion (λ x. is_lt (row_cmp keys y x) ≡ false) o.rows) waits
   pub held : 0 < length o.rows → AllByRecursion (HoldsBack keys o.rows) ins
   pub nothing_waits : o.done ≡ true → waits ≡ []
   pub inputs_done : o.done ≡ true → all_done ins ≡ true
 
-abbrev pub Gives : Parts → Spec → List Stream → List Stream → Type 0
-Gives parts (spec.Csv part) ins outs = Source (GivesPart (parts (spec.Csv part))) ins outs
+abbrev pub Gives : RowsOfSources → Spec → List Stream → List Stream → Type 0
+Gives parts (spec.Csv part) ins outs = Source (GivesSource (parts (spec.Csv part))) ins outs
 Gives parts (spec.List list) ins outs = Source (GivesListed (parts (spec.List list))) ins outs
 Gives parts (spec.Numbers n rows) ins outs = Source (GivesFront (numbers n).rows) ins outs
 Gives parts (spec.Filter c) ins outs = OneToOne (GivesThrough (filter (holds c))) ins outs
@@ -102,8 +103,8 @@ Gives parts (spec.PartialAggregate g) ins outs =
 Gives parts (spec.MergeAggregate g) ins outs =
     ManyToOne
     (λ (is : List Stream) (o : Stream). GivesHeld
-    (λ rows. IsPermutation (merged_rows g (all_rows (rows_of is))) rows) (all_done is) o) ins
-    outs
+    (λ rows. IsPermutation (merged_rows g (rows_together (stream_rows is))) rows) (all_done is) o)
+    ins outs
 Gives parts (spec.HashJoin join) ins outs = TwoToOne (GivesJoined join.pairs) ins outs
 Gives parts (spec.Sort order) ins outs =
     OneToOne (λ (i o : Stream). GivesHeld (IsSortOf order.keys i.rows) i.done o) ins outs

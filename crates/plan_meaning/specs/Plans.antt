@@ -1,7 +1,7 @@
 -- The plan of a query as a list of nodes, and what it answers.
 use Rattle.std.specs.Prelude.{Bool, List, None, Option, Some, [], cond, false, flat_map, length, map, sum_by, true, ℕ, ⊤, ◌&&◌, ◌++◌, ◌+◌, ◌<◌, ◌∷◌, ◌≡◌, ◌≤◌, ◌⊎◌}
 use Rattle.plan_meaning.specs.Prelude.{AllByRecursion, Cond, DraftNode, Expr, GroupSpec, IsOrderedAnswer, JoinSpec, Kind, Row, SortKey, SortSpec, Span, Spec, default_states, enough, groups_or_default, item_row, joined_rows, joint_node, kind_of, lane_nodes, list_all, numbers, partial_rows, rows_where, same_kind, source_nodes}
-use Rattle.plan_meaning.specs.Streams.{Parts}
+use Rattle.plan_meaning.specs.Streams.{RowsOfSources}
 use Rattle.query_model.specs.declared.processor_spec.Kind.TheVariants as kind
 use Rattle.query_model.specs.declared.processor_spec.Spec.TheVariants as spec
 
@@ -99,20 +99,20 @@ abbrev pub plan_nodes : SelectPlan → List DraftNode
 plan_nodes p = body_nodes p ++ collect_node ∷ []
 
 -- the kinds that read no rows of others
-abbrev pub IsSource : Spec → Type 0
-IsSource (spec.Csv part) = ⊤
-IsSource (spec.List list) = ⊤
-IsSource (spec.Numbers n rows) = ⊤
-IsSource _ = ⊥
+abbrev pub IsSourceSpec : Spec → Type 0
+IsSourceSpec (spec.Csv part) = ⊤
+IsSourceSpec (spec.List list) = ⊤
+IsSourceSpec (spec.Numbers n rows) = ⊤
+IsSourceSpec _ = ⊥
 
 abbrev pub JoinsSources : Option PlanJoin → Type 0
 JoinsSources None = ⊤
-JoinsSources (Some j) = AllByRecursion IsSource j.sources
+JoinsSources (Some j) = AllByRecursion IsSourceSpec j.sources
 
 -- it has lanes, and reads from sources
 pub record IsPlan (p : SelectPlan) : Type 0 where
   pub some_lanes : 0 < p.lanes
-  pub sources : AllByRecursion IsSource p.sources
+  pub sources : AllByRecursion IsSourceSpec p.sources
   pub join : JoinsSources p.join
 
 -- a source for each of the parts that a list may name is kept for it
@@ -136,40 +136,40 @@ pub record IsSmall (p : SelectPlan) : Type 0 where
 -- ---- its answer
 
 -- the rows of a source, and whether they are all that its part should have
-abbrev pub source_list : Parts → Spec → List Row
+abbrev pub source_list : RowsOfSources → Spec → List Row
 source_list parts (spec.Csv part) = (parts (spec.Csv part)).rows
 source_list parts (spec.List list) = (parts (spec.List list)).rows
 source_list parts (spec.Numbers n rows) = (numbers n).rows
 source_list parts _ = []
 
-abbrev pub is_valid_source : Parts → Spec → Bool
+abbrev pub is_valid_source : RowsOfSources → Spec → Bool
 is_valid_source parts (spec.Csv part) = (parts (spec.Csv part)).valid
 is_valid_source parts (spec.List list) = (parts (spec.List list)).valid
 is_valid_source parts _ = true
 
-abbrev pub sources_rows : Parts → List Spec → List Row
+abbrev pub sources_rows : RowsOfSources → List Spec → List Row
 sources_rows parts sources = flat_map (source_list parts) sources
 
-abbrev pub all_valid : Parts → List Spec → Bool
+abbrev pub all_valid : RowsOfSources → List Spec → Bool
 all_valid parts sources = list_all (is_valid_source parts) sources
 
 -- the rows that are read where FROM has these, and whether all parts are valid where those of FROM
 -- are; and whether those parts are valid that must be before a row is read
-abbrev pub joined_from : Parts → Option PlanJoin → List Row → List Row
+abbrev pub joined_from : RowsOfSources → Option PlanJoin → List Row → List Row
 joined_from parts None left = left
 joined_from parts (Some j) left = joined_rows j.join.pairs left (sources_rows parts j.sources)
 
-abbrev pub valid_from : Parts → Option PlanJoin → Bool → Bool
+abbrev pub valid_from : RowsOfSources → Option PlanJoin → Bool → Bool
 valid_from parts None left = left
 valid_from parts (Some j) left = left && all_valid parts j.sources
 
-abbrev pub read_rows : Parts → List Spec → Option PlanJoin → List Row
+abbrev pub read_rows : RowsOfSources → List Spec → Option PlanJoin → List Row
 read_rows parts sources join = joined_from parts join (sources_rows parts sources)
 
-abbrev pub read_valid : Parts → List Spec → Option PlanJoin → Bool
+abbrev pub read_valid : RowsOfSources → List Spec → Option PlanJoin → Bool
 read_valid parts sources join = valid_from parts join (all_valid parts sources)
 
-abbrev pub join_valid : Parts → Option PlanJoin → Bool
+abbrev pub join_valid : RowsOfSources → Option PlanJoin → Bool
 join_valid parts None = true
 join_valid parts (Some j) = all_valid parts j.sources
 
@@ -186,10 +186,10 @@ abbrev pub made_rows : SelectPlan → List Row → List Row
 made_rows p rows = shape_rows p.shape (rows_where p.filter rows)
 
 -- the rows before order and limit
-abbrev pub plan_rows : Parts → SelectPlan → List Row
+abbrev pub plan_rows : RowsOfSources → SelectPlan → List Row
 plan_rows parts p = made_rows p (read_rows parts p.sources p.join)
 
-abbrev pub plan_valid : Parts → SelectPlan → Bool
+abbrev pub plan_valid : RowsOfSources → SelectPlan → Bool
 plan_valid parts p = read_valid parts p.sources p.join
 
 -- the parts that must be valid before a row passes: all of them where there are groups or an order,
@@ -204,23 +204,23 @@ plan_keys None = []
 plan_keys (Some order) = order.keys
 
 -- a limit that has enough rows of these
-abbrev pub HasEnough : Option Span → List Row → Type 0
-HasEnough None rows = ⊥
-HasEnough (Some span) rows = enough span ≤ length rows
+abbrev pub HasEnoughRows : Option Span → List Row → Type 0
+HasEnoughRows None rows = ⊥
+HasEnoughRows (Some span) rows = enough span ≤ length rows
 
 -- A limit has enough of what is made of the rows that are read, and what must be valid before a row
 -- passes is. `v` tells whether all that is read is valid, and `n` whether the second table is.
 pub record StopsEarly (p : SelectPlan) (rows : List Row) (v n : Bool) : Type 0 where
-  pub enough_rows : HasEnough p.limit (made_rows p rows)
+  pub enough_rows : HasEnoughRows p.limit (made_rows p rows)
   pub needed : needed_valid p.shape p.order v n ≡ true
 
-abbrev pub IsCut : Parts → SelectPlan → Type 0
+abbrev pub IsCut : RowsOfSources → SelectPlan → Type 0
 IsCut parts p = StopsEarly p (read_rows parts p.sources p.join) (plan_valid parts p)
     (join_valid parts p.join)
 
 -- What was collected is an answer over the rows before the first bad record of each part. All parts
 -- are valid, or a limit cut the run short.
-pub record PlanAnswers (parts : Parts) (p : SelectPlan) (rows : List Row) : Type 0 where
+pub record PlanAnswers (parts : RowsOfSources) (p : SelectPlan) (rows : List Row) : Type 0 where
   pub answer : IsOrderedAnswer (plan_keys p.order) p.limit (plan_rows parts p) rows
   pub valid : (plan_valid parts p ≡ true) ⊎ IsCut parts p
 
@@ -231,12 +231,12 @@ abbrev pub pulls : Kind → Spec → ℕ → ℕ
 pulls k s n = cond (same_kind (kind_of s) k) n 0
 
 -- a join of FROM's rows
-abbrev pub pulls_from : Kind → Parts → Option PlanJoin → List Row → ℕ
+abbrev pub pulls_from : Kind → RowsOfSources → Option PlanJoin → List Row → ℕ
 pulls_from k parts None left = 0
 pulls_from k parts (Some j) left = pulls k (spec.HashJoin j.join)
     (length left + length (sources_rows parts j.sources))
 
-abbrev pub join_pulls : Kind → Parts → List Spec → Option PlanJoin → ℕ
+abbrev pub join_pulls : Kind → RowsOfSources → List Spec → Option PlanJoin → ℕ
 join_pulls k parts sources join = pulls_from k parts join (sources_rows parts sources)
 
 abbrev pub filter_pulls : Kind → Option Cond → ℕ → ℕ
@@ -268,7 +268,7 @@ abbrev pub made_pulls : Kind → SelectPlan → List Row → ℕ
 made_pulls k p rows =
     filter_pulls k p.filter (length rows) + shape_pulls k p.shape p.order (rows_where p.filter rows)
 
-abbrev pub plan_pulls : Kind → Parts → SelectPlan → ℕ
+abbrev pub plan_pulls : Kind → RowsOfSources → SelectPlan → ℕ
 plan_pulls k parts p =
     join_pulls k parts p.sources p.join + made_pulls k p (read_rows parts p.sources p.join)
 

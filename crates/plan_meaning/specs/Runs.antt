@@ -2,8 +2,8 @@
 use Rattle.std.specs.Prelude.{List, [], cond, length, map, suc, true, ℕ, ⊤, ◌++◌, ◌+◌, ◌<◌, ◌∷◌, ◌≡◌}
 use Rattle.plan_meaning.specs.Prelude.{All, AllZip, ColumnType, DraftNode, Kind, NodePort, Row, Spec, Wire, consumer_of, given_by, kind_of, no_draft, ports_of, producer_of, same_kind, taken_by, with_nodes}
 use Rattle.plan_meaning.specs.Gives.{Gives}
-use Rattle.plan_meaning.specs.Streams.{Parts, Stream, all_done, all_rows, rows_of}
-use Rattle.query_model.specs.declared.processor_spec.Spec.TheVariants as spec
+use Rattle.proc_api.specs.SpecContracts.{IsNoLimit}
+use Rattle.plan_meaning.specs.Streams.{RowsOfSources, Stream, all_done, rows_together, stream_rows}
 
 -- ---- a run of a list of nodes, over what stands at the open ends
 
@@ -17,7 +17,8 @@ pub record Pulls (i s : Stream) : Type 0 where
   pub later : List (List ColumnType)
   pub types_are : i.types ++ later ≡ s.types
 
-pub record RunsNode (parts : Parts) (node : DraftNode) (before after : List Stream) : Type 0 where
+pub record RunsNode (parts : RowsOfSources) (node : DraftNode) (before after : List Stream) : Type
+    0 where
   pub ins : List Stream
   pub outs : List Stream
   pub pulls : AllZip Pulls ins (taken_by node before)
@@ -25,15 +26,11 @@ pub record RunsNode (parts : Parts) (node : DraftNode) (before after : List Stre
   pub count : length outs ≡ node.gives
   pub are : after ≡ given_by node outs before
 
-abbrev pub Runs : Parts → List DraftNode → List Stream → List Stream → Type 0
-Runs parts [] before after = after ≡ before
-Runs parts (node ∷ nodes) before after = (middle : List Stream) × RunsNode parts node before middle
-    × Runs parts nodes middle after
-
--- a limit may close its input before it is done, and no other kind does
-abbrev pub IsNoLimit : Spec → Type 0
-IsNoLimit (spec.Limit span) = ⊥
-IsNoLimit _ = ⊤
+abbrev pub PlanRuns : RowsOfSources → List DraftNode → List Stream → List Stream → Type 0
+PlanRuns parts [] before after = after ≡ before
+PlanRuns parts (node ∷ nodes) before after =
+    (middle : List Stream) × RunsNode parts node before middle
+    × PlanRuns parts nodes middle after
 
 -- each node has an output, and none is a limit
 abbrev pub IsOpenNode : DraftNode → Type 0
@@ -43,15 +40,17 @@ abbrev pub if_kind : Kind → DraftNode → ℕ → ℕ
 if_kind k node n = cond (same_kind (kind_of node.spec) k) n 0
 
 -- by the nodes of a kind together, in a run and where nobody closes an input
-abbrev pub pulled_by : (parts : Parts) → Kind
-    → (nodes : List DraftNode) (before after : List Stream) → Runs parts nodes before after → ℕ
-pulled_by parts k [] before after r = 0
-pulled_by parts k (node ∷ nodes) before after r =
-    if_kind k node (length (all_rows (rows_of r.1.ins))) + pulled_by parts k nodes r.0 after r.2
+abbrev pub pulled_by_nodes : (parts : RowsOfSources) → Kind
+    → (nodes : List DraftNode) (before after : List Stream) → PlanRuns parts nodes before after → ℕ
+pulled_by_nodes parts k [] before after r = 0
+pulled_by_nodes parts k (node ∷ nodes) before after r =
+    if_kind k node (length (rows_together (stream_rows r.1.ins))) + pulled_by_nodes parts k nodes
+    r.0 after r.2
 
 -- each input of each node is done
-abbrev pub AllInputsDone : (parts : Parts) → (nodes : List DraftNode) (before after : List Stream)
-    → Runs parts nodes before after → Type 0
+abbrev pub AllInputsDone : (parts : RowsOfSources)
+    → (nodes : List DraftNode) (before after : List Stream)
+    → PlanRuns parts nodes before after → Type 0
 AllInputsDone parts [] before after r = ⊤
 AllInputsDone parts (node ∷ nodes) before after r = (all_done r.1.ins ≡ true)
     × AllInputsDone parts nodes r.0 after r.2
@@ -60,7 +59,8 @@ AllInputsDone parts (node ∷ nodes) before after r = (all_done r.1.ins ≡ true
 
 -- What was pulled at each input and pushed at each output of the nodes, the first of which is node
 -- n: each node gives what its kind gives.
-abbrev pub EachGives : Parts → ℕ → List DraftNode → (pulled pushed : NodePort → Stream) → Type 0
+abbrev pub EachGives : RowsOfSources → ℕ → List DraftNode → (pulled pushed : NodePort → Stream)
+    → Type 0
 EachGives parts n [] pulled pushed = ⊤
 EachGives parts n (node ∷ nodes) pulled pushed =
     Gives parts node.spec (map pulled (ports_of n 0 node.takes))
@@ -75,12 +75,12 @@ AllPull pulled pushed wires =
 abbrev pub pulled_rows : Kind → ℕ → List DraftNode → (NodePort → Stream) → ℕ
 pulled_rows k n [] pulled = 0
 pulled_rows k n (node ∷ nodes) pulled =
-    if_kind k node (length (all_rows (rows_of (map pulled (ports_of n 0 node.takes)))))
+    if_kind k node (length (rows_together (stream_rows (map pulled (ports_of n 0 node.takes)))))
     + pulled_rows k (suc n) nodes pulled
 
 -- An ended run: what each node gave, what was pulled along each wire, and that the last node has
 -- all of its input.
-pub record HasRun (parts : Parts) (nodes : List DraftNode) (pulled pushed : NodePort
+pub record HasRun (parts : RowsOfSources) (nodes : List DraftNode) (pulled pushed : NodePort
     → Stream) : Type 0 where
   pub each : EachGives parts 0 nodes pulled pushed
   pub along : AllPull pulled pushed (with_nodes nodes no_draft).wires

@@ -7,16 +7,16 @@ use Rattle.plan_meaning.specs.Prelude.{ColumnType, Row, Spec, list_all, list_any
 
 -- the rows of a part before its first bad record, and whether it has none; of a list of parts,
 -- those of all its parts, and whether it and each of them are valid
-pub record Part : Type 0 where
+pub record SourceRows : Type 0 where
   pub rows : List Row
   pub valid : Bool
 
 -- what the sources of these specs read
-abbrev pub Parts : Type 0
-Parts = Spec → Part
+abbrev pub RowsOfSources : Type 0
+RowsOfSources = Spec → SourceRows
 
-abbrev pub all_rows : List (List Row) → List Row
-all_rows lists = flat_map (λ rows. rows) lists
+abbrev pub rows_together : List (List Row) → List Row
+rows_together lists = flat_map (λ rows. rows) lists
 
 -- What passed by the end: the rows, and whether the port was finished by its producer. At an input
 -- that counts only where all was pulled.
@@ -34,8 +34,8 @@ pub record Flow : Type 0 where
   pub certain : Bool
   pub needs : Bool
 
-abbrev pub rows_of : List Stream → List (List Row)
-rows_of streams = map (λ (s : Stream). s.rows) streams
+abbrev pub stream_rows : List Stream → List (List Row)
+stream_rows streams = map (λ (s : Stream). s.rows) streams
 
 abbrev pub flow_rows : List Flow → List (List Row)
 flow_rows flows = map (λ (f : Flow). f.rows) flows

@@ -1,9 +1,9 @@
 -- The types of the chunks that pass: what a kind keeps holds as long as each chunk that it pulled
 -- fits.
 use Rattle.std.specs.Prelude.{List, Some, [], flat_map, map, replicate, suc, ℕ, ⊤, ◌++◌, ◌∷◌, ◌≡◌}
-use Rattle.plan_meaning.specs.Prelude.{AllByRecursion, Any, ColumnType, DraftNode, FitsInput, NodePort, Spec, given_by, group_types, numbers, ports_of, taken_by, type_of}
+use Rattle.plan_meaning.specs.Prelude.{AllByRecursion, Any, ColumnType, DraftNode, FitsInput, NodePort, Spec, given_by, numbers, ports_of, spec_group_types, taken_by, type_of}
 use Rattle.query_model.specs.declared.processor_spec.Spec.TheVariants as spec
-use Rattle.plan_meaning.specs.Streams.{Parts, Stream}
+use Rattle.plan_meaning.specs.Streams.{RowsOfSources, Stream}
 use Rattle.plan_meaning.specs.Gives.{Gives}
 
 abbrev pub Types : Type 0
@@ -37,22 +37,26 @@ MakesType (spec.Csv part) ins t = t ≡ part.types
 MakesType (spec.List list) ins t = t ≡ list.types
 MakesType (spec.Numbers n rows) ins t = t ≡ (numbers n).types
 MakesType (spec.Expression items) ins t = Any (λ u. t ≡ map (λ e. type_of e u) items) ins
-MakesType (spec.PartialAggregate g) ins t = t ≡ group_types g
-MakesType (spec.MergeAggregate g) ins t = t ≡ group_types g
+MakesType (spec.PartialAggregate g) ins t = t ≡ spec_group_types g
+MakesType (spec.MergeAggregate g) ins t = t ≡ spec_group_types g
 MakesType (spec.HashJoin join) ins t = t ≡ join.left ++ join.right
 MakesType (spec.Sort order) ins t = t ≡ order.types
 MakesType (spec.MergeSorted order) ins t = t ≡ order.types
-MakesType _ ins t = IsAmong ins t
+MakesType (spec.Filter c) ins t = IsAmong ins t
+MakesType spec.Resize ins t = IsAmong ins t
+MakesType (spec.Limit span) ins t = IsAmong ins t
+MakesType spec.Collect ins t = IsAmong ins t
 
 -- a kind's promises, which hold as long as each chunk that it pulled fits
-pub record GivesIf (parts : Parts) (s : Spec) (ins outs : List Stream) : Type 0 where
+pub record GivesIf (parts : RowsOfSources) (s : Spec) (ins outs : List Stream) : Type 0 where
   pub gives : FitFrom s 0 ins → Gives parts s ins outs
   pub typed : FitFrom s 0 ins
       → AllByRecursion (λ (o : Stream). AllByRecursion (MakesType s (pulled_types ins)) o.types)
       outs
 
 -- each node keeps its kind's promises; the first node is node n
-abbrev pub EachGivesIf : Parts → ℕ → List DraftNode → (pulled pushed : NodePort → Stream) → Type 0
+abbrev pub EachGivesIf : RowsOfSources → ℕ → List DraftNode → (pulled pushed : NodePort → Stream)
+    → Type 0
 EachGivesIf parts n [] pulled pushed = ⊤
 EachGivesIf parts n (node ∷ nodes) pulled pushed =
     GivesIf parts node.spec (map pulled (ports_of n 0 node.takes))

@@ -3,9 +3,9 @@ pub use Rattle.chunk_data.specs.Values.{Table}
 pub use Rattle.pipeline_exec.proofs.Lists.{one-more}
 pub use Rattle.pipeline_exec.specs.Ends.{Begun}
 pub use Rattle.plan_run.specs.OneBox.{OnlyBox}
-pub use Rattle.plan_run.specs.Plans.{Begins, GivesBack, GivesRows, IsBlankAgain, KeepsBehind, PlanFaultHolds, RanKept, RanWith, ReadsByKind, RunsPlan, StuckWith, kinds_in, kinds_of, kinds_taken, taken_at}
+pub use Rattle.plan_run.specs.Plans.{GivesBack, GivesRows, GraphBegins, IsBlankAgain, KeepsBehind, PlanFaultHolds, RanKept, RanWith, ReadsByKind, RunsPlan, StuckWith, kinds_in, kinds_of, kinds_taken, taken_at}
 pub use Rattle.plan_run.specs.Steps.{AreLater, AreStill, GivesUnloaded, IsLater, IsStill, IsThese, LoadsFirst, RunsLoaded, RunsTaken, UnloadsFirst}
-pub use Rattle.plan_run.specs.Stock.{HasStock, first_of, left_after, taken_for, without_first}
+pub use Rattle.plan_run.specs.Stock.{HasStock, first_box_of, left_after, taken_for, without_first_box}
 pub use Rattle.plan_run.specs.declared.run.GraphForm.{GraphForm}
 pub use Rattle.plan_run.specs.declared.run.PlanFault.{PlanFault}
 pub use Rattle.port_word.specs.declared.flags.Wire.{Wire}

@@ -1,37 +1,16 @@
 -- Laws of what is taken from a rack, and what is left.
 use Rattle.std.proofs.Common.{◌≡◌, ℕ, zero, suc, ◌+◌, ◌<◌, ◌≤◌, Bool, true, false, cond, List, [], ◌∷◌, ◌++◌, map, take, length, length-append, get_or, refl, ap, subst, ◌∙◌, sym, arith}
-use Rattle.plan_run.proofs.Imports.{All, All-cons, All-head, All-nil, All-tail, BoxPicture, HasStock, Kind, Spec, TakesOut, count_by, eq-eqb, eqb-true, first_of, get_or-append-add, get_or-map, get_or_append_left, get_or_default, is_of, kind_of, kind_place, kinds_in, kinds_of, kinds_taken, left_after, length-map, map_push, same_kind, sum_by-cons, take_more, taken_for, without_first}
+use Rattle.plan_run.proofs.Imports.{All, All-cons, All-head, All-nil, All-tail, BoxPicture, HasStock, Kind, Spec, TakesOut, count_by, eq-eqb, eqb-true, first_box_of, get_or-append-add, get_or-map, get_or_append_left, get_or_default, is_of, kind_of, kind_place, kinds_in, kinds_of, kinds_taken, left_after, length-map, map_push, same_kind, sum_by-cons, take_more, taken_for, without_first_box}
+use Rattle.proc_api.proofs.RackLaws.{kind-at}
+use Rattle.proc_api.specs.KindRows.{all_kinds}
 use Rattle.query_model.specs.declared.processor_spec.Kind.TheVariants as kind
 
 -- ---- kinds
 
--- the kinds in their order
-abbrev pub kinds_in_order : List Kind
-kinds_in_order =
-    kind.Csv ∷ kind.List ∷ kind.Numbers ∷ kind.Filter ∷ kind.Expression ∷ kind.Resize
-    ∷ kind.PartialAggregate ∷ kind.MergeAggregate ∷ kind.HashJoin ∷ kind.Sort ∷ kind.MergeSorted
-    ∷ kind.Limit ∷ kind.Collect ∷ []
-
--- each stands at its place
-pub kind-at : (k d : Kind) → get_or kinds_in_order (kind_place k) d ≡ k
-kind-at kind.Csv d = refl
-kind-at kind.List d = refl
-kind-at kind.Numbers d = refl
-kind-at kind.Filter d = refl
-kind-at kind.Expression d = refl
-kind-at kind.Resize d = refl
-kind-at kind.PartialAggregate d = refl
-kind-at kind.MergeAggregate d = refl
-kind-at kind.HashJoin d = refl
-kind-at kind.Sort d = refl
-kind-at kind.MergeSorted d = refl
-kind-at kind.Limit d = refl
-kind-at kind.Collect d = refl
-
 pub same-kind : (a b : Kind) → same_kind a b ≡ true → a ≡ b
 same-kind a b e =
     sym (kind-at a a)
-    ∙ ap (λ n. get_or kinds_in_order n a) (eqb-true (kind_place a) (kind_place b) e)
+    ∙ ap (λ n. get_or all_kinds n a) (eqb-true (kind_place a) (kind_place b) e)
     ∙ kind-at b a
 
 -- ---- counts
@@ -51,27 +30,30 @@ some-later false n e h = omega (arith, h)
 -- ---- one box
 
 first-at : (k : Kind) (front : List BoxPicture) (b : BoxPicture) (back : List BoxPicture)
-    → is_of k b ≡ true → count_by (is_of k) front ≡ 0 → (first_of k (front ++ b ∷ back) ≡ b)
-    × (without_first k (front ++ b ∷ back) ≡ front ++ back)
+    → is_of k b ≡ true → count_by (is_of k) front ≡ 0 → (first_box_of k (front ++ b ∷ back) ≡ b)
+    × (without_first_box k (front ++ b ∷ back) ≡ front ++ back)
 first-at k [] b back it none = (
-  ap (λ t. cond t b (first_of k back)) it,
-  ap (λ t. cond t back (b ∷ without_first k back)) it,
+  ap (λ t. cond t b (first_box_of k back)) it,
+  ap (λ t. cond t back (b ∷ without_first_box k back)) it,
 )
 first-at k (p ∷ front) b back it none =
     let parts = none-first (is_of k p) (count_by (is_of k) front)
     (sym (count_by-cons (is_of k) p front) ∙ none) in
     let rest = first-at k front b back it parts.1 in (
-      ap (λ t. cond t p (first_of k (front ++ b ∷ back))) parts.0 ∙ rest.0,
-      ap (λ t. cond t (front ++ b ∷ back) (p ∷ without_first k (front ++ b ∷ back))) parts.0
+      ap (λ t. cond t p (first_box_of k (front ++ b ∷ back))) parts.0 ∙ rest.0,
+      ap (λ t. cond t (front ++ b ∷ back) (p ∷ without_first_box k (front ++ b ∷ back))) parts.0
           ∙ ap (λ l. p ∷ l) rest.1,
     )
 
 -- what a rack's `take` gives and leaves
 pub takes-first : (k : Kind) (before after : List BoxPicture) (b : BoxPicture)
-    → TakesOut k before after b → (first_of k before ≡ b) × (without_first k before ≡ after)
+    → TakesOut k before after b → (first_box_of k before ≡ b) × (without_first_box k before ≡ after)
 takes-first k before after b t =
-    let at = first-at k t.front b t.back t.of_kind t.first in
-    (ap (first_of k) t.before_is ∙ at.0, ap (without_first k) t.before_is ∙ at.1 ∙ sym t.after_is)
+    let at = first-at k t.front b t.back t.of_kind t.first in (
+      ap (first_box_of k) t.before_is ∙ at.0,
+      ap (without_first_box k) t.before_is ∙ at.1
+          ∙ sym t.after_is,
+    )
 
 -- where there is a box of the kind
 
@@ -81,52 +63,53 @@ some-rest k p boxes e some = some-later (is_of k p) (count_by (is_of k) boxes) e
     (subst (λ n. 0 < n) (count_by-cons (is_of k) p boxes) some)
 
 first-all : (P : BoxPicture → Type 0) (k : Kind) (boxes : List BoxPicture)
-    → 0 < count_by (is_of k) boxes → All P boxes → P (first_of k boxes)
+    → 0 < count_by (is_of k) boxes → All P boxes → P (first_box_of k boxes)
 first-all P k [] some all = absurd (omega (arith, some))
 first-all P k (p ∷ boxes) some all = choose (is_of k p) refl
     (λ later. first-all P k boxes later (All-tail P p boxes all))
   where
-    choose : (t : Bool) → is_of k p ≡ t → (0 < count_by (is_of k) boxes → P (first_of k boxes))
-        → P (cond t p (first_of k boxes))
+    choose : (t : Bool) → is_of k p ≡ t → (0 < count_by (is_of k) boxes → P (first_box_of k boxes))
+        → P (cond t p (first_box_of k boxes))
     choose true e rest = All-head P p boxes all
     choose false e rest = rest (some-rest k p boxes e some)
 
 first-of-kind : (k : Kind) (boxes : List BoxPicture) → 0 < count_by (is_of k) boxes
-    → is_of k (first_of k boxes) ≡ true
+    → is_of k (first_box_of k boxes) ≡ true
 first-of-kind k [] some = absurd (omega (arith, some))
 first-of-kind k (p ∷ boxes) some = choose (is_of k p) refl (first-of-kind k boxes)
   where
     choose : (t : Bool) → is_of k p ≡ t
-        → (0 < count_by (is_of k) boxes → is_of k (first_of k boxes) ≡ true)
-        → is_of k (cond t p (first_of k boxes)) ≡ true
+        → (0 < count_by (is_of k) boxes → is_of k (first_box_of k boxes) ≡ true)
+        → is_of k (cond t p (first_box_of k boxes)) ≡ true
     choose true e rest = e
     choose false e rest = rest (some-rest k p boxes e some)
 
 without-all : (P : BoxPicture → Type 0) (k : Kind) (boxes : List BoxPicture) → All P boxes
-    → All P (without_first k boxes)
+    → All P (without_first_box k boxes)
 without-all P k [] all = All-nil P
 without-all P k (p ∷ boxes) all = choose (is_of k p)
     (without-all P k boxes (All-tail P p boxes all))
   where
-    choose : (t : Bool) → All P (without_first k boxes)
-        → All P (cond t boxes (p ∷ without_first k boxes))
+    choose : (t : Bool) → All P (without_first_box k boxes)
+        → All P (cond t boxes (p ∷ without_first_box k boxes))
     choose true rest = All-tail P p boxes all
-    choose false rest = All-cons P p (without_first k boxes) (All-head P p boxes all) rest
+    choose false rest = All-cons P p (without_first_box k boxes) (All-head P p boxes all) rest
 
 -- ---- stock
 
 -- taking a box of one kind leaves one less of that kind, and as many of each other
 without-count : (j k : Kind) (boxes : List BoxPicture)
     → count_by (is_of j) boxes
-    ≤ count_by (is_of j) (without_first k boxes) + cond (same_kind k j) 1 0
+    ≤ count_by (is_of j) (without_first_box k boxes) + cond (same_kind k j) 1 0
 without-count j k [] = omega arith
 without-count j k (p ∷ boxes) = choose (is_of k p) refl (without-count j k boxes)
   where
     choose : (t : Bool) → is_of k p ≡ t
         → count_by (is_of j) boxes
-        ≤ count_by (is_of j) (without_first k boxes) + cond (same_kind k j) 1 0
+        ≤ count_by (is_of j) (without_first_box k boxes) + cond (same_kind k j) 1 0
         → count_by (is_of j) (p ∷ boxes)
-        ≤ count_by (is_of j) (cond t boxes (p ∷ without_first k boxes)) + cond (same_kind k j) 1 0
+        ≤ count_by (is_of j) (cond t boxes (p ∷ without_first_box k boxes)) + cond (same_kind k j) 1
+        0
     choose true e rest =
         let count : count_by (is_of j) (p ∷ boxes) ≡ cond (same_kind p.kind j) 1 0
         + count_by (is_of j) boxes = count_by-cons (is_of j) p boxes in
@@ -136,13 +119,13 @@ without-count j k (p ∷ boxes) = choose (is_of k p) refl (without-count j k box
     choose false e rest =
         let count : count_by (is_of j) (p ∷ boxes) ≡ cond (is_of j p) 1 0
         + count_by (is_of j) boxes = count_by-cons (is_of j) p boxes in
-        let less : count_by (is_of j) (p ∷ without_first k boxes) ≡ cond (is_of j p) 1 0
-        + count_by (is_of j) (without_first k boxes) =
-        count_by-cons (is_of j) p (without_first k boxes) in
+        let less : count_by (is_of j) (p ∷ without_first_box k boxes) ≡ cond (is_of j p) 1 0
+        + count_by (is_of j) (without_first_box k boxes) =
+        count_by-cons (is_of j) p (without_first_box k boxes) in
         omega (arith, count, less, rest)
 
 pub stock-step : (k : Kind) (kinds : List Kind) (boxes : List BoxPicture)
-    → HasStock (k ∷ kinds) boxes → HasStock kinds (without_first k boxes)
+    → HasStock (k ∷ kinds) boxes → HasStock kinds (without_first_box k boxes)
 stock-step k kinds boxes h j =
     let here = h j in
     let asked : count_by (λ i. same_kind i j) (k ∷ kinds) ≡ cond (same_kind k j) 1 0
@@ -166,51 +149,51 @@ pub still-there : (kinds : List Kind) (n : ℕ) (d : Kind) (boxes : List BoxPict
     → 0 < count_by (is_of (get_or kinds n d)) (left_after (take n kinds) boxes)
 still-there [] n d boxes h lt = absurd (omega (arith, lt))
 still-there (k ∷ kinds) zero d boxes h lt = stock-here k kinds boxes h
-still-there (k ∷ kinds) (suc n) d boxes h lt = still-there kinds n d (without_first k boxes)
+still-there (k ∷ kinds) (suc n) d boxes h lt = still-there kinds n d (without_first_box k boxes)
     (stock-step k kinds boxes h) (omega (arith, lt))
 
 -- ---- all that are taken
 
 left-snoc : (kinds : List Kind) (k : Kind) (boxes : List BoxPicture)
-    → left_after (kinds ++ k ∷ []) boxes ≡ without_first k (left_after kinds boxes)
+    → left_after (kinds ++ k ∷ []) boxes ≡ without_first_box k (left_after kinds boxes)
 left-snoc [] k boxes = refl
-left-snoc (j ∷ kinds) k boxes = left-snoc kinds k (without_first j boxes)
+left-snoc (j ∷ kinds) k boxes = left-snoc kinds k (without_first_box j boxes)
 
 taken-snoc : (kinds : List Kind) (k : Kind) (boxes : List BoxPicture)
     → taken_for (kinds ++ k ∷ []) boxes ≡ taken_for kinds boxes
-    ++ first_of k (left_after kinds boxes) ∷ []
+    ++ first_box_of k (left_after kinds boxes) ∷ []
 taken-snoc [] k boxes = refl
-taken-snoc (j ∷ kinds) k boxes = ap (λ l. first_of j boxes ∷ l)
-    (taken-snoc kinds k (without_first j boxes))
+taken-snoc (j ∷ kinds) k boxes = ap (λ l. first_box_of j boxes ∷ l)
+    (taken-snoc kinds k (without_first_box j boxes))
 
 pub taken-length : (kinds : List Kind) (boxes : List BoxPicture)
     → length (taken_for kinds boxes) ≡ length kinds
 taken-length [] boxes = refl
-taken-length (k ∷ kinds) boxes = ap suc (taken-length kinds (without_first k boxes))
+taken-length (k ∷ kinds) boxes = ap suc (taken-length kinds (without_first_box k boxes))
 
 pub taken-kinds : (kinds : List Kind) (boxes : List BoxPicture) → HasStock kinds boxes
     → kinds_in (taken_for kinds boxes) ≡ kinds
 taken-kinds [] boxes h = refl
 taken-kinds (k ∷ kinds) boxes h =
-    let rest : kinds_in (taken_for kinds (without_first k boxes)) ≡ kinds =
-    taken-kinds kinds (without_first k boxes) (stock-step k kinds boxes h) in
-    ap (λ (i : Kind). i ∷ kinds_in (taken_for kinds (without_first k boxes)))
-    (same-kind (first_of k boxes).kind k (first-of-kind k boxes (stock-here k kinds boxes h)))
+    let rest : kinds_in (taken_for kinds (without_first_box k boxes)) ≡ kinds =
+    taken-kinds kinds (without_first_box k boxes) (stock-step k kinds boxes h) in
+    ap (λ (i : Kind). i ∷ kinds_in (taken_for kinds (without_first_box k boxes)))
+    (same-kind (first_box_of k boxes).kind k (first-of-kind k boxes (stock-here k kinds boxes h)))
     ∙ ap (λ l. k ∷ l) rest
 
 pub taken-all : (P : BoxPicture → Type 0) (kinds : List Kind) (boxes : List BoxPicture)
     → HasStock kinds boxes → All P boxes → All P (taken_for kinds boxes)
 taken-all P [] boxes h all = All-nil P
 taken-all P (k ∷ kinds) boxes h all =
-    All-cons P (first_of k boxes) (taken_for kinds (without_first k boxes))
+    All-cons P (first_box_of k boxes) (taken_for kinds (without_first_box k boxes))
     (first-all P k boxes (stock-here k kinds boxes h) all)
-    (taken-all P kinds (without_first k boxes) (stock-step k kinds boxes h)
+    (taken-all P kinds (without_first_box k boxes) (stock-step k kinds boxes h)
     (without-all P k boxes all))
 
 pub left-all : (P : BoxPicture → Type 0) (kinds : List Kind) (boxes : List BoxPicture) → All P boxes
     → All P (left_after kinds boxes)
 left-all P [] boxes all = all
-left-all P (k ∷ kinds) boxes all = left-all P kinds (without_first k boxes)
+left-all P (k ∷ kinds) boxes all = left-all P kinds (without_first_box k boxes)
     (without-all P k boxes all)
 
 -- ---- one more is taken
@@ -218,16 +201,16 @@ left-all P (k ∷ kinds) boxes all = left-all P kinds (without_first k boxes)
 pub taken-more : (kinds : List Kind) (n : ℕ) (k : Kind) (boxes taken left : List BoxPicture)
     → take (n + 1) kinds ≡ take n kinds ++ k ∷ [] → left ≡ left_after (take n kinds) boxes
     → taken ≡ taken_for (take n kinds) boxes
-    → taken ++ first_of k left ∷ [] ≡ taken_for (take (n + 1) kinds) boxes
+    → taken ++ first_box_of k left ∷ [] ≡ taken_for (take (n + 1) kinds) boxes
 taken-more kinds n k boxes taken left more l t =
-    ap (λ xs. xs ++ first_of k left ∷ []) t
-    ∙ ap (λ ys. taken_for (take n kinds) boxes ++ first_of k ys ∷ []) l
+    ap (λ xs. xs ++ first_box_of k left ∷ []) t
+    ∙ ap (λ ys. taken_for (take n kinds) boxes ++ first_box_of k ys ∷ []) l
     ∙ sym (taken-snoc (take n kinds) k boxes) ∙ sym (ap (λ ks. taken_for ks boxes) more)
 
 pub left-more : (kinds : List Kind) (n : ℕ) (k : Kind) (boxes left : List BoxPicture)
     → take (n + 1) kinds ≡ take n kinds ++ k ∷ [] → left ≡ left_after (take n kinds) boxes
-    → without_first k left ≡ left_after (take (n + 1) kinds) boxes
-left-more kinds n k boxes left more l = ap (without_first k) l
+    → without_first_box k left ≡ left_after (take (n + 1) kinds) boxes
+left-more kinds n k boxes left more l = ap (without_first_box k) l
     ∙ sym (left-snoc (take n kinds) k boxes) ∙ sym (ap (λ ks. left_after ks boxes) more)
 
 -- at the same place
@@ -243,12 +226,13 @@ left-same kinds n m boxes left e h = subst (λ k. left ≡ left_after (take k ki
 
 pub pushed-first : {A : Type 0} (f : A → BoxPicture) (k : Kind) (before after : List BoxPicture)
     (xs ys : List A) (b : A) → ys ≡ xs ++ b ∷ [] → TakesOut k before after (f b)
-    → map f ys ≡ map f xs ++ first_of k before ∷ []
+    → map f ys ≡ map f xs ++ first_box_of k before ∷ []
 pushed-first f k before after xs ys b e t = ap (map f) e ∙ map_push f xs b
     ∙ ap (λ p. map f xs ++ p ∷ []) (sym (takes-first k before after (f b) t).0)
 
 pub left-first : {A : Type 0} (f : A → BoxPicture) (k : Kind) (before : List BoxPicture)
-    (ys : List A) (b : A) → TakesOut k before (map f ys) (f b) → map f ys ≡ without_first k before
+    (ys : List A) (b : A) → TakesOut k before (map f ys) (f b) → map f ys
+    ≡ without_first_box k before
 left-first f k before ys b t = sym (takes-first k before (map f ys) (f b) t).1
 
 pub kinds-length : (specs : List Spec) (kept : List Kind)

@@ -1,7 +1,7 @@
 -- What a run of a plan tells, from the steps that it is made of.
 use Rattle.std.proofs.Common.{◌≡◌, ◌⊎◌, ℕ, ◌+◌, ◌<◌, ◌≤◌, true, false, List, ◌++◌, length, length-append, Option, Some, None, IsSome, Result, Ok, Err, IfOk, IfErr, refl, ap, subst, ◌∙◌, sym, arith, inl, inr}
 use Rattle.std.proofs.lemmas.Bool.{lt-leb}
-use Rattle.plan_run.proofs.Imports.{All, All-append, AreLater, AreStarting, AreStill, Begins, Begun, GivesBack, GivesRows, GivesUnloaded, GraphForm, HasStock, IsBlankAgain, IsLater, IsStill, IsThese, KeepsBehind, Kind, LoadsFirst, PlanFault, PlanFaultHolds, RanKept, RanWith, ReadsByKind, RunsLoaded, RunsPlan, RunsTaken, Spec, StartsAs, StuckWith, Table, both_ways, cases_lt, is_reserved, kind_of, kinds_in, kinds_of, kinds_taken, left_after, length-map, spec_at, taken_at, taken_for}
+use Rattle.plan_run.proofs.Imports.{All, All-append, AreLater, AreStarting, AreStill, Begun, GivesBack, GivesRows, GivesUnloaded, GraphBegins, GraphForm, HasStock, IsBlankAgain, IsLater, IsStill, IsThese, KeepsBehind, Kind, LoadsFirst, PlanFault, PlanFaultHolds, RanKept, RanWith, ReadsByKind, RunsLoaded, RunsPlan, RunsTaken, Spec, StartsAs, StuckWith, Table, both_ways, cases_lt, is_reserved, kind_of, kinds_in, kinds_of, kinds_taken, left_after, length-map, spec_at, taken_at, taken_for}
 use Rattle.proc_api.specs.Names.{BoxPicture, Notes, no_notes, IsBlank, IsFresh, IsSourceKind, HasNoReader, Loads, Unloads, raised}
 use Rattle.exec_laws.specs.Names.{IsBorn, box_at, GivenBack, GivesBox, StaysBox}
 use Rattle.plan_run.specs.declared.run.PlanFault.TheVariants as end
@@ -342,7 +342,7 @@ module _ (R S : List BoxPicture → Type 0) (by : (ended : List BoxPicture) → 
   fault-by end.Memory B C up h = h
 
 pub begins-by : (form : GraphForm) (ks all : List Kind) → ks ≡ all → (P Q : Begun → Type 0)
-    → ((b : Begun) → P b → Q b) → Begins form ks P → Begins form all Q
+    → ((b : Begun) → P b → Q b) → GraphBegins form ks P → GraphBegins form all Q
 begins-by form ks all e P Q by h = record {
   boxes = h.boxes;
   kinds_are = h.kinds_are ∙ e;
@@ -367,7 +367,7 @@ pub begun-with : (form : GraphForm) (boxes : List BoxPicture) → AreStarting fo
       wires = form.wires;
       reserves = form.reserves;
       boxes = boxes;
-    }) → Begins form (kinds_in boxes) Q
+    }) → GraphBegins form (kinds_in boxes) Q
 begun-with form boxes starting P Q by h =
     record { boxes = boxes; kinds_are = refl; starting = starting; holds = by _ h }
 

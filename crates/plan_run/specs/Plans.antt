@@ -38,6 +38,14 @@ pub record KeepsBehind (nodes : ℕ) (g : GraphForm) : Type 0 where
   pub reserves_fit : AreReserves (length g.ranks) (length g.wires) g.wires g.reserves
   pub kept : (n : ℕ) → n < length g.ranks → is_reserved g.reserves n ≡ nat_le nodes n
 
+-- so many workers may run a graph of this form over so many boxes, of which the first are loaded
+pub record MayRun (nodes boxes : ℕ) (g : GraphForm) (workers : ℕ) : Type 0 where
+  pub some_nodes : 1 ≤ nodes
+  pub one_each : length g.ranks ≡ boxes
+  pub graph : KeepsBehind nodes g
+  pub some_workers : 1 ≤ workers
+  pub few_workers : workers ≤ 16
+
 -- ---- the boxes
 
 -- A blank box that was loaded with the spec and run, as the run left it: the same box, whose counts
@@ -106,7 +114,7 @@ pub record RunsPlan (specs : List Spec) (kept : List Kind) (before after ended :
 
 -- A graph of this form began with boxes of these kinds, of which the first were loaded, and this is
 -- true of it.
-pub record Begins (g : GraphForm) (kinds : List Kind) (P : Begun → Type 0) : Type 0 where
+pub record GraphBegins (g : GraphForm) (kinds : List Kind) (P : Begun → Type 0) : Type 0 where
   pub boxes : List BoxPicture
   pub kinds_are : kinds_in boxes ≡ kinds
   pub starting : AreStarting g.reserves boxes

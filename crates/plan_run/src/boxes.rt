@@ -5,7 +5,7 @@ ghost use Rattle.proc_api.specs.Names.{IsBlank, Loads, Unloads, is_of};
 ghost use Rattle.exec_laws.specs.Runs.{box_at};
 ghost use Rattle.plan_run.specs.OneBox.{OnlyBox};
 ghost use Rattle.plan_run.specs.Plans.{kinds_taken, spec_at};
-ghost use Rattle.plan_run.specs.Stock.{first_of, without_first, taken_for, left_after, HasStock};
+ghost use Rattle.plan_run.specs.Stock.{first_box_of, without_first_box, taken_for, left_after, HasStock};
 ghost use Rattle.plan_run.specs.Steps.{AreStill, GivesUnloaded, LoadsFirst, UnloadsFirst};
 
 use chunk_data::{List, Memory};
@@ -46,9 +46,9 @@ fn take_next(rack: &mut Rack, kind: Kind, boxes: &mut Vec<Box<dyn Processor + Se
     requires there { 0 < count_by (is_of kind) (map (λ b. seen b) rack.old.boxes.items) }
     requires room { length boxes.old.items < vec_capacity boxes.old }
     ensures taken { map (λ b. seen b) boxes.new.items ≡ map (λ b. seen b) boxes.old.items
-        ++ first_of kind (map (λ b. seen b) rack.old.boxes.items) ∷ [] }
+        ++ first_box_of kind (map (λ b. seen b) rack.old.boxes.items) ∷ [] }
     ensures left { map (λ b. seen b) rack.new.boxes.items
-        ≡ without_first kind (map (λ b. seen b) rack.old.boxes.items) }
+        ≡ without_first_box kind (map (λ b. seen b) rack.old.boxes.items) }
     ensures one_more { length boxes.new.items ≡ length boxes.old.items + 1 }
     ensures one_less { length rack.new.boxes.items + 1 ≡ length rack.old.boxes.items }
     ensures rack_room { vec_capacity rack.old.boxes ≤ vec_capacity rack.new.boxes }

@@ -3,9 +3,9 @@ ghost use Rattle.std.specs.List.{All};
 ghost use Rattle.proc_api.specs.Names.{handed_out_by, IsBlank};
 ghost use Rattle.proc_api.specs.Reserves.{AreStarting};
 ghost use Rattle.exec_laws.specs.Runs.{IsBorn, box_at};
-ghost use Rattle.pipeline_exec.specs.Ends.{Begun, EndHolds};
+ghost use Rattle.pipeline_exec.specs.Ends.{Begun, ExecEndHolds};
 ghost use Rattle.plan_run.specs.Stock.{HasStock};
-ghost use Rattle.plan_run.specs.Plans.{kinds_in, kinds_taken, Begins, KeepsBehind, PlanFaultHolds, GivesRows, GivesBack, LeavesRack, ReadsByKind, RunsPlan};
+ghost use Rattle.plan_run.specs.Plans.{kinds_in, kinds_taken, GraphBegins, KeepsBehind, MayRun, PlanFaultHolds, GivesRows, GivesBack, LeavesRack, ReadsByKind, RunsPlan};
 ghost use Rattle.plan_run.specs.Steps.{AreLater, AreStill, IsStill, IsThese, RunsLoaded, RunsTaken};
 
 use crate::boxes::{give_back, load_boxes, take_boxes};
@@ -15,6 +15,7 @@ use pipeline_exec::{ExecEnd, RunResult, run_graph};
 use port_word::{Reserve, Wire};
 use proc_api::{Processor, Rack, WorkFault};
 use query_model::processor_spec::{Kind, Spec};
+use std::sync::Wait;
 use std::thread::Threads;
 
 /// The nodes of a plan in order, by what each box is loaded with; the kinds of the boxes that are
@@ -57,7 +58,7 @@ struct PlanEnd {
 ///
 /// The first box of each spec's kind is taken in turn. Whatever comes, all boxes are given back in
 /// the order in which they were taken.
-pub fn run_plan<R: AllocGlobal + Threads + Sync>(
+pub fn run_plan<R: AllocGlobal + Threads + Wait + Sync>(
     rt: &R,
     rack: &mut Rack,
     plan: PlanGraph,
@@ -75,14 +76,14 @@ pub fn run_plan<R: AllocGlobal + Threads + Sync>(
         (map (λ b. seen (b.vtable, b.value)) rack.old.boxes.items)
         (map (λ b. seen (b.vtable, b.value)) rack.new.boxes.items) }
     ensures blank { All IsBlank (map (λ b. seen (b.vtable, b.value)) rack.new.boxes.items) }
-    ensures rows { IfOk result (λ chunks. Begins plan.form
+    ensures rows { IfOk result (λ chunks. GraphBegins plan.form
         (kinds_taken plan.specs.items plan.kept) (GivesRows
         (RunsPlan plan.specs.items plan.kept
         (map (λ b. seen (b.vtable, b.value)) rack.old.boxes.items)
         (map (λ b. seen (b.vtable, b.value)) rack.new.boxes.items))
         (length plan.specs.items) chunks.items)) }
     ensures fault { IfErr result (λ f. PlanFaultHolds f
-        (Begins plan.form (kinds_taken plan.specs.items plan.kept))
+        (GraphBegins plan.form (kinds_taken plan.specs.items plan.kept))
         (RunsPlan plan.specs.items plan.kept
         (map (λ b. seen (b.vtable, b.value)) rack.old.boxes.items)
         (map (λ b. seen (b.vtable, b.value)) rack.new.boxes.items))) }
@@ -95,7 +96,7 @@ pub fn run_plan<R: AllocGlobal + Threads + Sync>(
 }
 
 /// Runs a plan by boxes that it takes into the room.
-fn run_in<R: AllocGlobal + Threads + Sync>(
+fn run_in<R: AllocGlobal + Threads + Wait + Sync>(
     rt: &R,
     rack: &mut Rack,
     plan: PlanGraph,
@@ -105,21 +106,18 @@ fn run_in<R: AllocGlobal + Threads + Sync>(
     requires blank { All IsBlank (map (λ b. seen b) rack.old.boxes.items) }
     requires stock { HasStock (kinds_taken plan.specs.items plan.kept)
         (map (λ b. seen b) rack.old.boxes.items) }
-    requires some_nodes { 1 ≤ length plan.specs.items }
-    requires one_each { length plan.form.ranks ≡ length plan.specs.items + length plan.kept }
-    requires graph { KeepsBehind (length plan.specs.items) plan.form }
+    requires plan { MayRun (length plan.specs.items)
+        (length plan.specs.items + length plan.kept) plan.form workers }
     requires empty { room.items ≡ [] }
     requires room { length plan.specs.items + length plan.kept ≤ vec_capacity room }
-    requires some_workers { 1 ≤ workers }
-    requires few_workers { workers ≤ 16 }
     ensures rack { GivesBack (kinds_taken plan.specs.items plan.kept)
         (map (λ b. seen b) rack.old.boxes.items) (map (λ b. seen b) rack.new.boxes.items) }
-    ensures rows { IfOk result (λ chunks. Begins plan.form
+    ensures rows { IfOk result (λ chunks. GraphBegins plan.form
         (kinds_taken plan.specs.items plan.kept) (GivesRows
         (RunsPlan plan.specs.items plan.kept (map (λ b. seen b) rack.old.boxes.items)
         (map (λ b. seen b) rack.new.boxes.items)) (length plan.specs.items) chunks.items)) }
     ensures fault { IfErr result (λ f. PlanFaultHolds f
-        (Begins plan.form (kinds_taken plan.specs.items plan.kept))
+        (GraphBegins plan.form (kinds_taken plan.specs.items plan.kept))
         (RunsPlan plan.specs.items plan.kept (map (λ b. seen b) rack.old.boxes.items)
         (map (λ b. seen b) rack.new.boxes.items))) }
 {
@@ -131,7 +129,7 @@ fn run_in<R: AllocGlobal + Threads + Sync>(
 }
 
 /// Loads the boxes and runs the graph of them.
-fn run_taken<R: AllocGlobal + Threads + Sync>(
+fn run_taken<R: AllocGlobal + Threads + Wait + Sync>(
     rt: &R,
     boxes: Vec<Box<dyn Processor + Send>>,
     plan: PlanGraph,
@@ -140,19 +138,16 @@ fn run_taken<R: AllocGlobal + Threads + Sync>(
     requires blank { All IsBlank (map (λ b. seen b) boxes.items) }
     requires kinds { kinds_in (map (λ b. seen b) boxes.items)
         ≡ kinds_taken plan.specs.items plan.kept }
-    requires some_nodes { 1 ≤ length plan.specs.items }
-    requires one_each { length plan.form.ranks ≡ length plan.specs.items + length plan.kept }
-    requires graph { KeepsBehind (length plan.specs.items) plan.form }
-    requires some_workers { 1 ≤ workers }
-    requires few_workers { workers ≤ 16 }
+    requires plan { MayRun (length plan.specs.items)
+        (length plan.specs.items + length plan.kept) plan.form workers }
     ensures later { AreLater (map (λ b. seen b) boxes.items)
         (map (λ b. seen b) result.boxes.items) }
-    ensures rows { IfOk result.result (λ chunks. Begins plan.form
+    ensures rows { IfOk result.result (λ chunks. GraphBegins plan.form
         (kinds_taken plan.specs.items plan.kept) (GivesRows
         (RunsTaken plan.specs.items (map (λ b. seen b) boxes.items)
         (map (λ b. seen b) result.boxes.items)) (length plan.specs.items) chunks.items)) }
     ensures fault { IfErr result.result (λ f. PlanFaultHolds f
-        (Begins plan.form (kinds_taken plan.specs.items plan.kept))
+        (GraphBegins plan.form (kinds_taken plan.specs.items plan.kept))
         (RunsTaken plan.specs.items (map (λ b. seen b) boxes.items)
         (map (λ b. seen b) result.boxes.items))) }
 {
@@ -173,7 +168,7 @@ fn run_taken<R: AllocGlobal + Threads + Sync>(
 }
 
 /// Runs the graph of boxes of which so many are loaded.
-fn run_loaded<R: AllocGlobal + Threads + Sync>(
+fn run_loaded<R: AllocGlobal + Threads + Wait + Sync>(
     rt: &R,
     boxes: Vec<Box<dyn Processor + Send>>,
     nodes: usize,
@@ -181,20 +176,16 @@ fn run_loaded<R: AllocGlobal + Threads + Sync>(
     workers: u32,
 ) -> PlanEnd
     requires starting { AreStarting form.reserves (map (λ b. seen b) boxes.items) }
-    requires some_nodes { 1 ≤ nodes }
     requires nodes_within { nodes ≤ length boxes.items }
-    requires one_each { length form.ranks ≡ length boxes.items }
-    requires graph { KeepsBehind nodes form }
-    requires some_workers { 1 ≤ workers }
-    requires few_workers { workers ≤ 16 }
+    requires form { MayRun nodes (length boxes.items) form workers }
     ensures later { AreLater (map (λ b. seen b) boxes.items)
         (map (λ b. seen b) result.boxes.items) }
-    ensures rows { IfOk result.result (λ chunks. Begins form
+    ensures rows { IfOk result.result (λ chunks. GraphBegins form
         (kinds_in (map (λ b. seen b) boxes.items)) (GivesRows
         (RunsLoaded (map (λ b. seen b) boxes.items) (map (λ b. seen b) result.boxes.items))
         nodes chunks.items)) }
     ensures fault { IfErr result.result (λ f. PlanFaultHolds f
-        (Begins form (kinds_in (map (λ b. seen b) boxes.items)))
+        (GraphBegins form (kinds_in (map (λ b. seen b) boxes.items)))
         (RunsLoaded (map (λ b. seen b) boxes.items) (map (λ b. seen b) result.boxes.items))) }
 {
     let GraphForm {
@@ -224,13 +215,13 @@ fn result_of(
     requires nodes_within { nodes ≤ length boxes.old.items }
     requires born { (n : ℕ) → n < nodes
         → IsBorn (box_at (map (λ b. seen b) boxes.old.items) n) }
-    requires end { (b : Begun) × EndHolds end b (map (λ b. seen b) boxes.old.items) }
+    requires end { (b : Begun) × ExecEndHolds end b (map (λ b. seen b) boxes.old.items) }
     ensures still { AreStill (map (λ b. seen b) boxes.old.items)
         (map (λ b. seen b) boxes.new.items) }
-    ensures rows { (b : Begun) → EndHolds end b (map (λ b. seen b) boxes.old.items)
+    ensures rows { (b : Begun) → ExecEndHolds end b (map (λ b. seen b) boxes.old.items)
         → IfOk result (λ chunks. GivesRows (IsThese (map (λ b. seen b) boxes.old.items)) nodes
         chunks.items b) }
-    ensures fault { (b : Begun) → EndHolds end b (map (λ b. seen b) boxes.old.items)
+    ensures fault { (b : Begun) → ExecEndHolds end b (map (λ b. seen b) boxes.old.items)
         → IfErr result
         (λ f. PlanFaultHolds f (λ P. P b) (IsThese (map (λ b. seen b) boxes.old.items))) }
 {

@@ -1,5 +1,5 @@
 -- Why a plan gave no text, as what is said of the command, its part and the box that served it.
-use Rattle.query_run.proofs.Prelude.{AreLawfulOver, BadPlace, Begins, BoxPicture, Checked, Command, CountIncreased, DraftNode, FailsAtPart, FailsWith, Files, GraphForm, HasNoReader, HasStock, IfSome, IsFileNamed, IsListNamed, IsLongFile, IsPartNamed, IsPlanFault, IsRunnable, IsSourceKind, KeepsBehind, Kind, LeavesPlan, LeavesRack, List, OfPart, Option, PartFailsFor, PartFailure, PartName, PartSpec, PlanFailsFor, PlanFailure, PlanFault, PlanFaultHolds, RanPlan, RanWith, RunsPlan, Some, Spec, Tells, UsedPart, WorkFault, ap, arith, bad_line_in, both_ways, box_at, cases_lt, failure_of, file_bytes, inl, inr, is_some, kind_of, kinds_for, kinds_reserved, length, length-map, part_bad_place, plan_nodes, plan_of, raised, refl, reserves_from, spec_at, specs_in, subst, sym, taken_at, true, used_part, ℕ, ◌<◌, ◌∙◌, ◌≡◌, ◌≤◌}
+use Rattle.query_run.proofs.Imports.{AreLawfulOver, BadPlace, BoxPicture, Checked, Command, CountIncreased, DraftNode, FailsAtPart, FailsWith, Files, GraphBegins, GraphForm, HasNoReader, HasStock, IfSome, IsFileNamed, IsListNamed, IsLongFile, IsPartNamed, IsPlanFault, IsRunnable, IsSourceKind, KeepsBehind, Kind, LeavesPlan, LeavesRack, List, OfPart, Option, PartFailsFor, PartFailure, PartName, PartSpec, PlanFailsFor, PlanFailure, PlanFault, PlanFaultHolds, RanPlan, RanWith, RunsPlan, Some, Spec, Tells, UsedPart, WorkFault, ap, arith, bad_line_in, both_ways, box_at, cases_lt, failure_of, file_bytes, inl, inr, is_some, kind_of, kinds_for, kinds_reserved, length, length-map, part_bad_place, plan_nodes, plan_of, raised, refl, reserves_from, spec_at, specs_in, subst, sym, taken_at, true, used_part, ℕ, ◌<◌, ◌∙◌, ◌≡◌, ◌≤◌}
 use Rattle.query_model.specs.declared.processor_spec.Kind.TheVariants as kind
 use Rattle.query_model.specs.declared.processor_spec.Spec.TheVariants as spec
 use Rattle.proc_api.specs.declared.status.WorkFault.TheVariants as fault
@@ -26,7 +26,7 @@ none-rose p n q h none = omega (arith, h, none)
 
 -- want of memory is told as itself
 pub plan-fault : (form : GraphForm) (kinds : List Kind) (R : List BoxPicture → Type 0)
-    (f : PlanFault) → PlanFaultHolds f (Begins form kinds) R → IsPlanFault f
+    (f : PlanFault) → PlanFaultHolds f (GraphBegins form kinds) R → IsPlanFault f
 plan-fault form kinds R (end.Fault node fault.Memory) h = h.holds.grown.holds.not_memory refl
 plan-fault form kinds R f h = tt
 
@@ -47,7 +47,7 @@ module _ {c : Command} {q : Checked} {before : List BoxPicture} {nodes : List Dr
   ran ended run = record { nodes = nodes; same = copies.same; ended = ended; runs = run }
 
   module _ (node : ℕ) (f : WorkFault)
-      (g : Begins (formed nodes) (kinds_for nodes) (FailsWith Runs node f)) where
+      (g : GraphBegins (formed nodes) (kinds_for nodes) (FailsWith Runs node f)) where
     abbrev ended : List BoxPicture
     ended = g.holds.ended
 
@@ -137,7 +137,7 @@ module _ {c : Command} {q : Checked} {before : List BoxPicture} {nodes : List Dr
   -- ---- each fault
 
   abbrev Fails : ℕ → WorkFault → Type 0
-  Fails node f = Begins (formed nodes) (kinds_for nodes) (FailsWith Runs node f)
+  Fails node f = GraphBegins (formed nodes) (kinds_for nodes) (FailsWith Runs node f)
 
   read-cause : (node : ℕ) → Fails node fault.Read
       → FailsAtPart (names node) part.Read c q before after
@@ -218,7 +218,7 @@ module _ {c : Command} {q : Checked} {before : List BoxPicture} {nodes : List Dr
 
   -- every failure of the plan has its cause
   plan-cause : (f : PlanFault) → LeavesRack (kinds_for nodes) before after
-      → PlanFaultHolds f (Begins (formed nodes) (kinds_for nodes)) Runs
+      → PlanFaultHolds f (GraphBegins (formed nodes) (kinds_for nodes)) Runs
       → PlanFailsFor (failure_of f names) c q before after
   plan-cause (end.Fault node fault.Read) left g = read-cause node g
   plan-cause (end.Fault node fault.Stalled) left g = stalled-cause node g
@@ -253,7 +253,7 @@ module _ {c : Command} {q : Checked} {before : List BoxPicture} {nodes : List Dr
   -- a failure that was told has its cause
   pub told-cause : (f : PlanFault) (told : PlanFailure) → Tells told (failure_of f names)
       → LeavesRack (kinds_for nodes) before after
-      → PlanFaultHolds f (Begins (formed nodes) (kinds_for nodes)) Runs
+      → PlanFaultHolds f (GraphBegins (formed nodes) (kinds_for nodes)) Runs
       → PlanFailsFor told c q before after
   told-cause f told (inl e) left why =
       subst (λ x. PlanFailsFor x c q before after) (sym e) (plan-cause f left why)

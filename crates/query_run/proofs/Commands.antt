@@ -1,5 +1,5 @@
 -- The query that was read of a command and checked, and the plan that it has.
-use Rattle.query_run.proofs.Prelude.{Bool, BothOrNone, Checked, CheckedJoin, Command, FromColumn, Grouped, IsAccepted, IsChecked, IsCheckedCommand, IsCheckedJoin, IsReadFrom, IsShape, IsTypedQuery, IsTypedSelect, IsWithinLimits, Join, Kind, List, NamesFewPaths, None, Option, OrderKey, Plain, Query, QueryTree, Schema, Shape, Some, [], analysable_of_read, ap, ap₂, are_grouped, are_some, are_tested, are_two, arith, clause_need, cond_form, false, few_sources, from_columns, from_types, is_grouped, is_some, join_tables, join_use, length, map, query_boxes, need_by_clauses, not, one_tree, option_map, output_names, refl, refusal_of, same_grouped, schemas_of, sort_key, stock_of, subst, sym, tables_used, true, typed-select, use_of, used_tables, ◌==◌, ◌||◌, ◌∙◌, ◌∷◌, ◌≡◌, ◌≤◌}
+use Rattle.query_run.proofs.Imports.{Bool, BothOrNone, Checked, CheckedJoin, Command, FromColumn, Grouped, IsAccepted, IsChecked, IsCheckedCommand, IsCheckedJoin, IsReadFrom, IsShape, IsTypedQuery, IsTypedSelect, IsWithinLimits, Join, Kind, List, NamesFewPaths, None, Option, OrderKey, Plain, Query, QueryTree, Schema, Shape, Some, [], analysable_of_read, ap, ap₂, are_grouped, are_some, are_tested, are_two, arith, clause_need, cond_form, false, few_sources, from_columns, from_types, is_grouped, is_some, join_tables, join_use, length, map, query_boxes, need_by_clauses, not, one_tree, option_map, output_names, refl, refusal_of, same_grouped, schemas_of, sort_key, stock_of, subst, sym, tables_used, true, typed-select, use_of, used_tables, ◌==◌, ◌||◌, ◌∙◌, ◌∷◌, ◌≡◌, ◌≤◌}
 use Rattle.query_model.specs.declared.processor_spec.Kind.TheVariants as kind
 
 -- ---- what was read and checked

@@ -1,5 +1,5 @@
 -- From the chunks that a plan's graph gives to the text of one answer of a command.
-use Rattle.query_run.proofs.Prelude.{All, All-append, AllPartsValid, AreLawfulOver, Bool, BoxPicture, Checked, ColumnType, Command, DraftNode, Files, GivesText, GrowsLawfully, HasEnded, HasEnough, HasGrown, HasPulled, HasStock, IfSome, IsCertain, IsDone, IsPlain, IsRunnable, IsUngrown, IsValidUsed, KeepsBehind, Kind, List, MakesText, NodeForm, NodePort, None, Option, Plain, PulledMore, PullsItsFlow, QueryAnswered, Row, RunsPlan, SelectPlan, Shape, Some, SortKey, Spec, Stream, [], all_rows, answer_text, ap, arith, body_nodes, born_wires, both-valid, both_ways, box_at, chunk_rows, collect_node, database, false, flat_map, flow, get_or-map, grown-lists, handed_out_by, heading, if◌then◌else◌, inl, inr, join_use, join_valid, joined-valid, kind_of, kinds_for, kinds_reserved, length, length-append, length-map, lists-valid, map, needed_valid, node_form, order_of, parts_of, parts_used, plan_nodes, plan_of, plan_valid, planned-ended, ports_of, pulled_at, pulled_rows, refl, reserves_from, rows_of, rows_text, same_kind, shape_of, since-pulled, source_types, spec_at, specs_in, subst, sym, table-valid, true, ℕ, ◌++◌, ◌+◌, ◌-◌, ◌<◌, ◌∙◌, ◌∷◌, ◌≡◌, ◌⊎◌}
+use Rattle.query_run.proofs.Imports.{All, All-append, AllPartsValid, AreLawfulOver, Bool, BoxPicture, Checked, ColumnType, Command, DraftNode, Files, GivesText, GrowsLawfully, HasEnded, HasEnoughRows, HasGrown, HasPulled, HasStock, IfSome, IsCertain, IsDone, IsPlain, IsRunnable, IsUngrown, IsValidUsed, KeepsBehind, Kind, List, MakesText, NodeForm, NodePort, None, Option, Plain, PulledMore, PullsItsFlow, QueryAnswered, Row, RunsPlan, SelectPlan, Shape, Some, SortKey, Spec, Stream, [], answer_text, ap, arith, body_nodes, born_wires, both-valid, both_ways, box_at, chunk_rows, collect_node, database, false, flat_map, flow, get_or-map, grown-lists, handed_out_by, heading, if◌then◌else◌, inl, inr, join_use, join_valid, joined-valid, kind_of, kinds_for, kinds_reserved, length, length-append, length-map, lists-valid, map, needed_valid, node_form, order_of, parts_used, plan_nodes, plan_of, plan_valid, planned-ended, ports_of, pulled_rows, refl, reserves_from, rows_text, rows_together, same_kind, shape_of, since-pulled, source_types, sources_of_files, spec_at, specs_in, stream_pulled_at, stream_rows, subst, sym, table-valid, true, ℕ, ◌++◌, ◌+◌, ◌-◌, ◌<◌, ◌∙◌, ◌∷◌, ◌≡◌, ◌⊎◌}
 use Rattle.query_model.specs.declared.processor_spec.Kind.TheVariants as kind
 use Rattle.query_model.specs.declared.processor_spec.Spec.TheVariants as spec
 use Rattle.query_run.proofs.Causes.{ran}
@@ -10,11 +10,11 @@ use Rattle.query_run.proofs.Pulling.{kept-other, kind-pulled}
 use Rattle.query_run.proofs.Reserves.{kept-sources}
 
 -- the rows under the names, where those head them
-pub headed : (header : Bool) (names : List (List ℕ)) (rows : List Row)
+pub heading_before_rows : (header : Bool) (names : List (List ℕ)) (rows : List Row)
     → heading (if header then Some names else None) ++ rows_text rows
     ≡ answer_text header names rows
-headed true names rows = refl
-headed false names rows = refl
+heading_before_rows true names rows = refl
+heading_before_rows false names rows = refl
 
 if-some : {A : Type 0} {P Q : A → Type 0} (o : Option A) → ((x : A) → P x → Q x) → IfSome o P
     → IfSome o Q
@@ -130,13 +130,14 @@ module _ {c : Command} {q : Checked} {before after : List BoxPicture} {nodes : L
         ∙ ap (λ n. handed_out_by (box_at ended n).kind (box_at ended n).work) place
         ∙ ap (λ k. handed_out_by k (box_at ended last).work) of_kind ∙ collected.gathered)
 
-    joined : join_valid (parts_of files) plan.join ≡ true
+    joined : join_valid (sources_of_files files) plan.join ≡ true
         → All (IsValidUsed c.header files) (flat_map (parts_used files c.tables) (join_use q.join))
     joined e = (joined-valid c.tables c.header c.chunk_rows files q.from q.join e).0
 
-    all_parts : plan_valid (parts_of files) plan ≡ true → AllPartsValid c.header files c.tables q
+    all_parts : plan_valid (sources_of_files files) plan ≡ true
+        → AllPartsValid c.header files c.tables q
     all_parts all =
-        let both = both-valid (parts_of files) plan.sources plan.join all in
+        let both = both-valid (sources_of_files files) plan.sources plan.join all in
         All-append (IsValidUsed c.header files) (parts_used files c.tables q.from)
         (flat_map (parts_used files c.tables) (join_use q.join))
         (table-valid c.tables c.header c.chunk_rows files q.from both.0).parts
@@ -148,11 +149,11 @@ module _ {c : Command} {q : Checked} {before after : List BoxPicture} {nodes : L
       | inr cut ↦
           elim (cut_or_valid q.shape
           (source_types c.tables q.from q.join) q.types c.chunk_rows q.order
-          (plan_valid (parts_of files) plan) (join_valid (parts_of files) plan.join)
+          (plan_valid (sources_of_files files) plan) (join_valid (sources_of_files files) plan.join)
           cut.needed) [
             | inl all ↦ inl (all_parts all)
             | inr free ↦ inr (record {
-              enough_rows = subst (HasEnough q.limit) answered.output cut.enough_rows;
+              enough_rows = subst (HasEnoughRows q.limit) answered.output cut.enough_rows;
               ungrouped = free.0;
               unordered = free.1;
               joined = joined free.2;
@@ -162,11 +163,11 @@ module _ {c : Command} {q : Checked} {before after : List BoxPicture} {nodes : L
 
     -- a kind of which nothing is kept pulled what its nodes did
     nodes_pulled : (k : Kind) (n : ℕ) → same_kind kind.List k ≡ false → same_kind kind.Csv k ≡ false
-        → pulled_rows k 0 nodes (pulled_at ended has_ended.done.pulled) ≡ n
+        → pulled_rows k 0 nodes (stream_pulled_at ended has_ended.done.pulled) ≡ n
         → PulledMore k before after (Some n)
     unfolding spec_at
     nodes_pulled k n list csv e =
-        let f : NodePort → Stream = pulled_at ended has_ended.done.pulled in
+        let f : NodePort → Stream = stream_pulled_at ended has_ended.done.pulled in
         let others = kept-sources (λ j. same_kind j k ≡ false) csv 0 nodes in
         let each = length-map nodes (λ (n : DraftNode). n.spec) in
         kind-pulled specs kept before after ended stock run k others n
@@ -178,7 +179,7 @@ module _ {c : Command} {q : Checked} {before after : List BoxPicture} {nodes : L
               ∙ ap kind_of (get_or-map (λ (n : DraftNode). n.spec) nodes i z spec.Collect lt
               ∙ ap (λ (n : DraftNode). n.spec) is),
           λ of. subst (λ m. HasPulled (box_at ended i)
-              (length (all_rows (rows_of (map f (ports_of m 0 z.takes))))))
+              (length (rows_together (stream_rows (map f (ports_of m 0 z.takes))))))
               (let e : i ≡ 0 + i = omega arith in e)
               (answered.run.counted i z lt is (ungrown-kind k z.spec list of)),
         ))) [ inl a ↦ inl (a ∙ e) | inr b ↦ inr b ])
@@ -186,10 +187,10 @@ module _ {c : Command} {q : Checked} {before after : List BoxPicture} {nodes : L
     -- nothing is told of sources
     told-kind : (k : Kind)
         → ((n : ℕ) → same_kind kind.List k ≡ false → same_kind kind.Csv k ≡ false
-        → pulled_rows k 0 nodes (pulled_at ended has_ended.done.pulled) ≡ n
+        → pulled_rows k 0 nodes (stream_pulled_at ended has_ended.done.pulled) ≡ n
         → PulledMore k before after (Some n))
         → IfSome (flow k q (database c.header files c.tables) rows)
-        (λ n. pulled_rows k 0 nodes (pulled_at ended has_ended.done.pulled) ≡ n)
+        (λ n. pulled_rows k 0 nodes (stream_pulled_at ended has_ended.done.pulled) ≡ n)
         → PulledMore k before after (flow k q (database c.header files c.tables) rows)
     told-kind kind.Csv more h = tt
     told-kind kind.List more h = tt

@@ -1,5 +1,5 @@
 -- The corollaries of the theorem on how a run ends, and completeness.
-use Rattle.query_run.proofs.Prelude.{All, All-contains, Answered, AreLawfulOver, AreRefused, BadPlace, BoxPicture, Checked, Command, Declared, Ending, Ends, EndsEarly, EndsFor, EndsUnlawful, Failed, FailsAtPart, FailsFor, Failure, Files, GivesBack, HasBoxes, HasStock, IsAccepted, IsAnswerable, IsBlank, IsCheckedCommand, IsDue, IsEither, IsHonest, IsListDeclared, IsListNamed, IsListUsed, IsLongFile, IsRefused, IsRefusedFor, IsRefusedQuery, IsRun, IsRunnable, IsShort, IsValidList, IsValidUsed, IsWithinLimits, Kind, LackBoxes, LacksBoxes, LeavesBoxes, List, MakesText, MeanNothing, NameManyPaths, NamesFewPaths, None, OfChecked, OfCommand, OfQuery, Option, ParseRefusal, PartName, PlanFailsFor, PlanFailure, PulledRows, Query, RanPlan, ReaderFails, Refusal, Refused, Schema, Shortage, Some, SucceedsUnless, TakesBoxes, Untouched, UsedPart, WriteFailed, WritesAnswer, arith, bad_line_in, both_ways, boxes_for, command_means, failure_status, file_bytes, first_crowded, inl, inr, kinds_reserved, limits_kept, one_tree, plan_kinds, plan_nodes, plan_of, plan_status, query_status, refl, refusal_of, refused_status, reserves_from, runs-give-back, same_refusal, schemas_of, specs_in, status_of, subst, sym, text_status, used_parts, used_tables, ℕ, ◌∙◌, ◌≡◌, ◌≢◌, ◌⊎◌}
+use Rattle.query_run.proofs.Imports.{All, All-contains, Answered, AreLawfulOver, AreRefused, BadPlace, BoxPicture, Checked, Command, Declared, Ending, Ends, EndsEarly, EndsFor, EndsUnlawful, Failed, FailsAtPart, FailsFor, Failure, Files, GivesBack, HasBoxes, HasStock, IsAccepted, IsAnswerable, IsBlank, IsCheckedCommand, IsDueRefusal, IsEither, IsHonest, IsListDeclared, IsListNamed, IsListUsed, IsLongFile, IsRefused, IsRefusedFor, IsRefusedQuery, IsRun, IsRunnable, IsShort, IsValidList, IsValidUsed, IsWithinLimits, Kind, LackBoxes, LacksBoxes, LeavesBoxes, List, MakesText, MeanNothing, NameManyPaths, NamesFewPaths, None, OfChecked, OfCommand, OfQuery, Option, ParseRefusal, PartName, PlanFailsFor, PlanFailure, PulledRows, Query, RanPlan, ReaderFails, Refusal, Refused, Schema, Shortage, Some, SucceedsUnless, TakesBoxes, Untouched, UsedPart, WriteFailed, WritesAnswer, arith, bad_line_in, both_ways, boxes_for, command_means, failure_status, file_bytes, first_crowded, inl, inr, kinds_reserved, limits_kept, one_tree, plan_kinds, plan_nodes, plan_of, plan_status, query_status, refl, refusal_of, refused_status, reserves_from, runs-give-back, same_refusal, schemas_of, specs_in, status_of, subst, sym, text_status, used_parts, used_tables, ℕ, ◌∙◌, ◌≡◌, ◌≢◌, ◌⊎◌}
 use Rattle.query_model.specs.declared.query.Refusal.TheVariants as refuse
 use Rattle.sql_text.specs.declared.limits.ParseRefusal.TheVariants as parse
 use Rattle.query_run.specs.declared.ending.Refused.TheVariants as refused
@@ -59,7 +59,7 @@ text_not_refused command parse.Memory a h = refl
 text_not_refused command r a h = absurd (clash a.read.early h)
 
 -- a refusal of a query is for want of memory, or has status 2 and is due
-due_status : (q : Query) (schemas : List Schema) (r : Refusal) → IsDue q schemas r
+due_status : (q : Query) (schemas : List Schema) (r : Refusal) → IsDueRefusal q schemas r
     → (query_status r ≡ 7) ⊎ ((query_status r ≡ 2) × (refusal_of q schemas ≡ Some r))
 due_status q schemas refuse.Memory h = inl refl
 due_status q schemas r (inl e) = absurd cc

@@ -1,5 +1,5 @@
 -- A lawful box never lets a plan's graph grow by a growth that has a flaw.
-use Rattle.query_run.proofs.Prelude.{All, All-append, All-cons, All-from_get_or, All-get_or, All-nil, AllByRecursion, Begins, Birth, Bool, BoxPicture, Checked, Command, DraftNode, Edge, FlawedWith, GrowthForm, HasStock, IsAdded, IsBirth, IsListGrowth, IsRunnable, KeepsBehind, Kind, List, MayGrow, Me, New, None, Option, PartSpec, Reserve, RunsPlan, Some, Spec, Who, Wire, [], and_parts, ap, arith, births_of, born_wires, both_ways, box_at, cases_Bool, cases_lt, cond, end_node, eq-eqb, false, few-paths-in, flat_map, get_or, grown_ranks, grown_wires, growth_flaw, growth_list, growths_of, has_wrong_end, holds_node, inl, input_count, inr, is_named, is_reserved, is_some, kept_growths, kinds_for, kinds_reserved, le-leb, left_of, length, list-growth-has-no-flaw, list_any, list_growth, ltb-true, map, new_wire, new_wires, no_wire, not-false, or_parts, paths_in, rank_at, refl, reserve_of, reserved_nodes, reserves_from, set_ranks, set_ranks-other, sources-left, spec_at, specs_in, subst, sum_by, sum_by-cons, sym, take, true, wire_at, ℕ, ◌++◌, ◌+◌, ◌<◌, ◌==◌, ◌∙◌, ◌∷◌, ◌≡◌, ◌≢◌, ◌≤◌}
+use Rattle.query_run.proofs.Imports.{All, All-append, All-cons, All-from_get_or, All-get_or, All-nil, AllByRecursion, Birth, Bool, BoxPicture, Checked, Command, DraftNode, Edge, FlawedWith, GraphBegins, GrowthForm, HasStock, IsAdded, IsBirth, IsListGrowth, IsRunnable, KeepsBehind, Kind, List, MayGrow, Me, New, None, Option, PartSpec, Reserve, RunsPlan, Some, Spec, Who, Wire, [], and_parts, ap, arith, births_of, born_wires, both_ways, box_at, cases_Bool, cases_lt, cond, end_node, eq-eqb, false, few-paths-in, flat_map, get_or, grown_ranks, grown_wires, growth_flaw, growth_list, growths_of, has_wrong_end, holds_node, inl, input_count, inr, is_named, is_reserved, is_some, kept_growths, kinds_for, kinds_reserved, le-leb, left_of, length, list-growth-has-no-flaw, list_any, list_growth, ltb-true, map, new_wire, new_wires, no_wire, not-false, or_parts, paths_in, rank_at, refl, reserve_of, reserved_nodes, reserves_from, set_ranks, set_ranks-other, sources-left, spec_at, specs_in, subst, sum_by, sum_by-cons, sym, take, true, wire_at, ℕ, ◌++◌, ◌+◌, ◌<◌, ◌==◌, ◌∙◌, ◌∷◌, ◌≡◌, ◌≢◌, ◌≤◌}
 use Rattle.query_model.specs.declared.processor_spec.Kind.TheVariants as kind
 use Rattle.query_model.specs.declared.processor_spec.Spec.TheVariants as spec
 use Rattle.query_run.proofs.Grown.{RanCopies, blank-kept, ended-within, formed, kept-kind, list-reads, none-kept-at, ranked-list, ranked-within, unfed-first}
@@ -85,7 +85,7 @@ module _ {c : Command} {q : Checked} {before after : List BoxPicture} {nodes : L
     (copies : AreCopies c q nodes) (runnable : IsRunnable c q before)
     (stock : HasStock (kinds_for nodes) before)
     (keeps : KeepsBehind (length nodes) (formed nodes)) (k : Kind)
-    (g : Begins (formed nodes) (kinds_for nodes)
+    (g : GraphBegins (formed nodes) (kinds_for nodes)
     (FlawedWith (RunsPlan (specs_in nodes) (kinds_reserved (reserves_from 0 nodes)) before after)
     k))
   where

@@ -1,7 +1,7 @@
 -- A plan's graph that ran over an honest rack has grown by its lists, and each box served the part
 -- that is noted of it.
 pub use Rattle.query_run.specs.Steps.{formed}
-use Rattle.query_run.proofs.Prelude.{AreBirths, AreLawfulOver, AreStarting, Birth, Bool, BoxPicture, Checked, Command, Contains, DraftNode, Files, GraphForm, GrowsLawfully, HasStock, IsListNamed, IsPartNamed, IsRanked, IsRunnable, IsSourceKind, KeepsBehind, Kind, List, None, Option, PartName, PartSpec, PlanGraph, ReadsNamed, RunsPlan, ServesNamed, Some, SourceHas, Spec, StartsAs, UsedPart, [], ap, arith, at-recursion, box_at, cases_Bool, cases_lt, collect_node, cond, ended-later, false, get_or, get_or-append-add, get_or-map, get_or_append_left, get_or_default, get_or_past, growth_list, inl, input_count, inr, is_reserved, is_some, kept_growths, kind_of, kinds_for, kinds_in, kinds_of, kinds_reserved, le-leb, length, length-append, length-map, length-replicate, listed_part, map, name_at, no_box, no_draft, part_place, paths_in, places_in, plan-graph, plan-ranked, plan_of, rank_at, refl, replicate, reserved_nodes, reserves_behind, reserves_from, same_kind, slice_get, spec_at, specs_in, subst, sym, take, taken-kinds, taken-length, taken_for, true, used_part, used_parts, with_nodes, ℕ, ⊤, ◌++◌, ◌+◌, ◌-◌, ◌<◌, ◌∙◌, ◌≡◌, ◌≤◌}
+use Rattle.query_run.proofs.Imports.{AreBirths, AreLawfulOver, AreStarting, Birth, Bool, BoxPicture, Checked, Command, Contains, DraftNode, Files, GraphForm, GrowsLawfully, HasStock, IsAboveSources, IsListNamed, IsPartNamed, IsPlanGraph, IsRunnable, IsSourceKind, KeepsBehind, Kind, List, None, Option, PartName, PartSpec, ReadsNamed, RunsPlan, ServesNamed, Some, SourceHas, Spec, StartsAs, UsedPart, [], ap, arith, at-recursion, box_at, cases_Bool, cases_lt, collect_node, cond, ended-later, false, get_or, get_or-append-add, get_or-map, get_or_append_left, get_or_default, get_or_past, growth_list, inl, input_count, inr, is_reserved, is_some, kept_growths, kind_of, kinds_for, kinds_in, kinds_of, kinds_reserved, le-leb, length, length-append, length-map, length-replicate, listed_part, map, name_at, no_box, no_draft, part_place, paths_in, places_in, plan-graph, plan-ranked, plan_of, rank_at, refl, replicate, reserved_nodes, reserves_behind, reserves_from, same_kind, slice_get, spec_at, specs_in, subst, sym, take, taken-kinds, taken-length, taken_for, true, used_part, used_parts, with_nodes, ℕ, ⊤, ◌++◌, ◌+◌, ◌-◌, ◌<◌, ◌∙◌, ◌≡◌, ◌≤◌}
 use Rattle.query_model.specs.declared.processor_spec.Kind.TheVariants as kind
 use Rattle.query_model.specs.declared.processor_spec.Spec.TheVariants as spec
 use Rattle.query_run.proofs.Kept.{IsKeptFor, kept-for, kept-place, listed, numbered-contains, slice-left, slice-right}
@@ -81,7 +81,7 @@ pub record RanCopies (c : Command) (q : Checked) (before after : List BoxPicture
 
 module _ {c : Command} {q : Checked} {before after : List BoxPicture} {nodes : List DraftNode}
     {ended : List BoxPicture} (x : RanCopies c q before after nodes ended) where
-  graph : PlanGraph nodes
+  graph : IsPlanGraph nodes
   graph = plan-graph (plan_of c q) nodes (small_plan x.copies x.runnable.paths) x.copies.same
 
   abbrev specs : List Spec
@@ -184,7 +184,7 @@ module _ {c : Command} {q : Checked} {before after : List BoxPicture} {nodes : L
       let z : DraftNode = get_or nodes n collect_node in
       subst (λ r. 0 < r) (sym (get_or_append_left ranks (replicate kept 0) 0 n within
       ∙ get_or-map (λ (n : DraftNode). n.rank) nodes n collect_node 0 lt))
-      (at-recursion IsRanked nodes (plan-ranked (plan_of c q) nodes x.copies.same) n z lt
+      (at-recursion IsAboveSources nodes (plan-ranked (plan_of c q) nodes x.copies.same) n z lt
       (get_or_default nodes n z collect_node lt))
 
   -- no wire of the plan goes to a list

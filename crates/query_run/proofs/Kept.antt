@@ -1,5 +1,5 @@
 -- The boxes that are kept for lists: which part each of them serves, and what it was loaded with.
-use Rattle.query_run.proofs.Prelude.{AllByRecursion, Birth, Bool, BoxPicture, ColumnType, Contains, Contains-append_right, DraftNode, Files, GrowsLawfully, GrowthForm, IsBirth, IsListGrowth, List, None, Option, PartPlace, PartSpec, PlanReserve, Reserve, Some, Spec, TakeBlanks, Wire, [], all_places, ap, append-nil, append_assoc, ap₂, arith, births_of, blanks_of, both_ways, box_at, cases_Bool, cases_lt, collect_node, cond, eq-eqb, false, few-paths-in, file_bytes, filter-append, flat_map, flat_map-append, form-csv, form_at, form_kind, get_or, get_or-map, get_or-range_with_len, get_or_default, growth_list, growths_of, holds_node, inl, inr, is_place, is_some, kept_at, kept_growths, kept_places, kind_of, length, length-append, length-map, length-range_with_len, list_any, list_any-append, listed_part, map, nil_from_length, numbered_parts, part-form, part_place, paths_in, place-of, places-listed, places_for, range_with_len, refl, reserve_of, reserved_nodes, reserves_behind, reserves_from, same_kind, slice_get, sources, sources-left, spec_at, spec_read, specs_in, subst, suc, sym, take, true, unboxed, zero, ℕ, ◌++◌, ◌+◌, ◌-◌, ◌<◌, ◌==◌, ◌∙◌, ◌∷◌, ◌≡◌, ◌≢◌, ◌≤◌}
+use Rattle.query_run.proofs.Imports.{AllByRecursion, Birth, Bool, BoxPicture, ColumnType, Contains, Contains-append_right, DraftNode, Files, GrowsLawfully, GrowthForm, IsBirth, IsListGrowth, List, None, Option, PartPlace, PartSpec, PlanReserve, Reserve, Some, Spec, TakeBlanks, Wire, [], all_places, ap, append-nil, append_assoc, ap₂, arith, births_of, blanks_of, both_ways, box_at, cases_Bool, cases_lt, collect_node, cond, eq-eqb, false, few-paths-in, file_bytes, filter-append, flat_map, flat_map-append, form-csv, form_at, form_kind, get_or, get_or-map, get_or-range_with_len, get_or_default, growth_list, growths_of, holds_node, inl, inr, is_place, is_some, kept_at, kept_growths, kept_places, kind_of, length, length-append, length-map, length-range_with_len, list_any, list_any-append, listed_part, map, nil_from_length, numbered_parts, part-form, part_place, paths_in, place-of, places-listed, places_for, range_with_len, refl, reserve_of, reserved_nodes, reserves_behind, reserves_from, same_kind, slice_get, sources, sources-left, spec_at, spec_read, specs_in, subst, suc, sym, take, true, unboxed, zero, ℕ, ◌++◌, ◌+◌, ◌-◌, ◌<◌, ◌==◌, ◌∙◌, ◌∷◌, ◌≡◌, ◌≢◌, ◌≤◌}
 use Rattle.query_model.specs.declared.processor_spec.Kind.TheVariants as kind
 use Rattle.query_model.specs.declared.processor_spec.Spec.TheVariants as spec
 use Rattle.query_run.proofs.Reserves.{IsListReserve, held-of, holds-one, kept-nodes, kept-of, list_kept, past-of}

@@ -1,4 +1,4 @@
-pub mod Prelude
+pub mod Imports
 pub mod Commands
 pub mod Lines
 pub mod Plans

@@ -1,8 +1,8 @@
 -- A line that is written in pieces.
-use Rattle.query_run.proofs.Prelude.{Err, GrewBy, GrewByPrefix, GrewByPrefix-after, GrewByPrefix-append, List, Option, Piece, Writes, [], ap, append-nil, drop, flat_map, flat_map-append, get_or, length, piece_bytes, subst, sym, take, take-append-drop, take_more, ℕ, ◌++◌, ◌+◌, ◌<◌, ◌∙◌, ◌∷◌, ◌≡◌}
+use Rattle.query_run.proofs.Imports.{Err, GrewBy, GrewByPrefix, GrewByPrefix-after, GrewByPrefix-append, LinePiece, List, Option, Writes, [], ap, append-nil, drop, flat_map, flat_map-append, get_or, length, piece_bytes, subst, sym, take, take-append-drop, take_more, ℕ, ◌++◌, ◌+◌, ◌<◌, ◌∙◌, ◌∷◌, ◌≡◌}
 
 -- the bytes of the pieces before a place, of the piece there, and of those behind it
-split-bytes : (ps : List Piece) (i : ℕ) (d : Piece) → i < length ps
+split-bytes : (ps : List LinePiece) (i : ℕ) (d : LinePiece) → i < length ps
     → (flat_map piece_bytes (take i ps) ++ piece_bytes (get_or ps i d)) ++ flat_map piece_bytes
     (drop (i + 1) ps) ≡ flat_map piece_bytes ps
 split-bytes ps i d lt =
@@ -16,7 +16,7 @@ split-bytes ps i d lt =
     ∙ ap (flat_map piece_bytes) (take-append-drop (i + 1) ps)
 
 -- a piece that was cut is the end of what was written
-pub writes-cut : {A E : Type 0} (ps : List Piece) (i : ℕ) (d : Piece)
+pub writes-cut : {A E : Type 0} (ps : List LinePiece) (i : ℕ) (d : LinePiece)
     (before between after : Option (List ℕ)) (failed : Type 0) (e : E)
     → i < length ps → GrewBy before between (flat_map piece_bytes (take i ps))
     → GrewByPrefix between after (piece_bytes (get_or ps i d)) → failed

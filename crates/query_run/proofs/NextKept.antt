@@ -1,5 +1,5 @@
 -- What is kept for one node more, as the code goes through a plan's reserves.
-use Rattle.query_run.proofs.Prelude.{List, PartPlace, PlanReserve, Reserve, [], ap, append_assoc, ap₂, arith, edges_kept, get_or, kept_places, length, reserved_nodes, reserves_behind, suc, sum_by-cons, sum_by-take-le, sum_by_more, sym, take, take_more, zero, ℕ, ◌++◌, ◌+◌, ◌<◌, ◌∙◌, ◌∷◌, ◌≡◌, ◌≤◌}
+use Rattle.query_run.proofs.Imports.{List, PartPlace, PlanReserve, Reserve, [], ap, append_assoc, ap₂, arith, edges_kept, get_or, kept_places, length, reserved_nodes, reserves_behind, suc, sum_by-cons, sum_by-take-le, sum_by_more, sym, take, take_more, zero, ℕ, ◌++◌, ◌+◌, ◌<◌, ◌∙◌, ◌∷◌, ◌≡◌, ◌≤◌}
 use Rattle.query_run.proofs.Reserves.{made, kept-nodes}
 
 pub kept-places-more : (t k n : ℕ)

@@ -1,5 +1,5 @@
 -- The graph that is run is that of the query's plan.
-use Rattle.query_run.proofs.Prelude.{Begins, BoxPicture, Checked, Command, DraftNode, GivesText, GraphForm, HasBoxes, HasStock, IsCheckedCommand, IsGraph, IsPlanned, IsRunnable, IsShort, IsWithinLimits, KeepsBehind, Kind, LeavesRack, List, MakesText, NodeForm, PartPlace, Plan, PlanFailsFor, PlanFailure, PlanFault, PlanFaultHolds, PlanNode, RunsPlan, Shortage, Spec, TableDecl, Tells, [], ap, ap₂, arith, body_nodes, boxes_for, boxes_needed, collect_node, count_by, edge_of, edges_kept, failure_of, is_of, kinds_for, kinds_reserved, kinds_taken, length, length-append, length-map, length-replicate, map, map-id, map-map, name_at, no_draft, node_form, node_of, node_specs, places_in, plan_nodes, plan_of, plan_ranks, plan_wires, replicate, reserved_nodes, reserves_behind, reserves_from, slice_get, specs_in, subst, sym, wire_of, with_nodes, ℕ, ◌++◌, ◌+◌, ◌∙◌, ◌∷◌, ◌≡◌, ◌≤◌}
+use Rattle.query_run.proofs.Imports.{BoxPicture, Checked, Command, DraftNode, GivesText, GraphBegins, GraphForm, HasBoxes, HasStock, IsCheckedCommand, IsGraph, IsPlanned, IsRunnable, IsShort, IsWithinLimits, KeepsBehind, Kind, LeavesRack, List, MakesText, NodeForm, PartPlace, Plan, PlanFailsFor, PlanFailure, PlanFault, PlanFaultHolds, PlanNode, RunsPlan, Shortage, Spec, TableDecl, Tells, [], ap, ap₂, arith, body_nodes, boxes_for, boxes_needed, collect_node, count_by, edges_kept, failure_of, is_of, kinds_for, kinds_reserved, kinds_taken, length, length-append, length-map, length-replicate, map, map-id, map-map, name_at, no_draft, node_form, node_specs, places_in, plan_edge_of, plan_node_of, plan_nodes, plan_of, plan_ranks, plan_wire_of, plan_wires, replicate, reserved_nodes, reserves_behind, reserves_from, slice_get, specs_in, subst, sym, with_nodes, ℕ, ◌++◌, ◌+◌, ◌∙◌, ◌∷◌, ◌≡◌, ◌≤◌}
 use Rattle.query_run.proofs.Causes.{told-cause}
 use Rattle.query_run.proofs.Composing.{makes_text}
 use Rattle.query_run.proofs.Grown.{formed}
@@ -31,23 +31,23 @@ module _ {c : Command} {q : Checked} {p : Plan} {specs : List Spec} (within : Is
     of_nodes : specs ≡ specs_in nodes
     of_nodes =
         specs_are ∙ ap node_specs planned.laid.nodes
-        ∙ map-map (λ (n : PlanNode). n.spec) node_of nodes
+        ∙ map-map (λ (n : PlanNode). n.spec) plan_node_of nodes
 
     abbrev wires_are : plan_wires p ≡ (with_nodes nodes no_draft).wires
-    wires_are = ap (map wire_of) planned.laid.edges
-        ∙ map-map wire_of edge_of (with_nodes nodes no_draft).wires
+    wires_are = ap (map plan_wire_of) planned.laid.edges
+        ∙ map-map plan_wire_of plan_edge_of (with_nodes nodes no_draft).wires
         ∙ map-id (with_nodes nodes no_draft).wires
 
     nodes_count : length p.nodes ≡ length nodes
-    nodes_count = ap (λ l. length l) planned.laid.nodes ∙ length-map nodes node_of
+    nodes_count = ap (λ l. length l) planned.laid.nodes ∙ length-map nodes plan_node_of
 
     edges_count : length p.edges ≡ length (with_nodes nodes no_draft).wires
     edges_count = ap (λ l. length l) planned.laid.edges
-        ∙ length-map (with_nodes nodes no_draft).wires edge_of
+        ∙ length-map (with_nodes nodes no_draft).wires plan_edge_of
 
     ranks_are : plan_ranks p ≡ map (λ (n : DraftNode). n.rank) nodes
     ranks_are = ap (map (λ (n : PlanNode). n.rank)) planned.laid.nodes
-        ∙ map-map (λ (n : PlanNode). n.rank) node_of nodes
+        ∙ map-map (λ (n : PlanNode). n.rank) plan_node_of nodes
 
     few_kept : length nodes + reserved_nodes (reserves_from 0 nodes) ≤ 124
     few_kept = subst (λ rs. length nodes + reserved_nodes rs ≤ 124) planned.laid.reserves
@@ -162,7 +162,7 @@ module _ {c : Command} {q : Checked} {p : Plan} {specs : List Spec} (within : Is
               → seen ≡ places → places ≡ places_in (node_specs p.nodes) p.reserves
               → Tells told (failure_of f (λ node. name_at tables (slice_get seen node)))
               → LeavesRack (kinds_taken specs kept) before after
-              → PlanFaultHolds f (Begins form (kinds_taken specs kept))
+              → PlanFaultHolds f (GraphBegins form (kinds_taken specs kept))
               (RunsPlan specs kept before after)
               → PlanFailsFor told c q before after
           made-cause {after} f told {tables} {places}

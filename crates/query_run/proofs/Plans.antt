@@ -1,5 +1,5 @@
 -- The nodes of a checked query's plan, and the boxes that they take from a rack.
-use Rattle.query_run.proofs.Prelude.{AllByRecursion, AreLawfulOver, BoxPicture, Checked, Command, Contains, Contains-append_right, DraftNode, Files, HasBoxes, HasStock, IsCheckedCommand, IsListNamed, IsListOf, IsPartNamed, IsPartOf, IsQueryPlan, IsSmall, IsSourceKind, IsStep, IsWithinLimits, Kind, KnownPorts, List, NamesFewPaths, PartSpec, PlanReserve, RanWith, ReadsNamed, RunsPlan, Some, SourceHas, Spec, TableDecl, UsedPart, [], ap, ap₂, arith, at-recursion, both_ways, box_at, boxes-counted, boxes_for, boxes_reserved, cases_lt, collect_node, cond, count_by, ended-later, flat_map, forms, get_or, get_or-map, get_or_default, in-front, inl, inr, is-small, is_some, join_use, joined-parts, kind_of, kinds-counted, kinds-same, kinds_for, kinds_of, kinds_reserved, length, length-map, map, name_at, name_of, part_place, parts_used, plan-needs, plan-steps, plan_kinds, plan_nodes, plan_of, query-plan, refl, reserves-same, reserves_from, same_kind, slice_get, spec_at, specs_in, subst, suc, sum_by, sum_by-append, sum_by-cons, sym, table-parts, taken-has, taken_at, true, used_part, used_parts, used_tables, zero, ℕ, ◌++◌, ◌<◌, ◌∙◌, ◌∷◌, ◌≡◌}
+use Rattle.query_run.proofs.Imports.{AllByRecursion, AreLawfulOver, BoxPicture, Checked, Command, Contains, Contains-append_right, DraftNode, Files, HasBoxes, HasStock, IsCheckedCommand, IsListNamed, IsListOf, IsPartNamed, IsPartOf, IsQueryPlan, IsSmall, IsSourceKind, IsStep, IsWithinLimits, Kind, KnownPorts, List, NamesFewPaths, PartSpec, PlanReserve, RanWith, ReadsNamed, RunsPlan, Some, SourceHas, Spec, TableDecl, UsedPart, [], ap, ap₂, arith, at-recursion, both_ways, box_at, boxes-counted, boxes_for, boxes_reserved, cases_lt, collect_node, cond, count_by, ended-later, flat_map, forms, get_or, get_or-map, get_or_default, in-front, inl, inr, is-small, is_some, join_use, joined-parts, kind_of, kinds-counted, kinds-same, kinds_for, kinds_of, kinds_reserved, length, length-map, map, name_at, name_of, part_place, parts_used, plan-needs, plan-steps, plan_kinds, plan_nodes, plan_of, query-plan, refl, reserves-same, reserves_from, same_kind, slice_get, spec_at, specs_in, subst, suc, sum_by, sum_by-append, sum_by-cons, sym, table-parts, taken-has, taken_at, true, used_part, used_parts, used_tables, zero, ℕ, ◌++◌, ◌<◌, ◌∙◌, ◌∷◌, ◌≡◌}
 use Rattle.query_model.specs.declared.processor_spec.Spec.TheVariants as spec
 use Rattle.query_run.proofs.Commands.{typed_by_tables}
 

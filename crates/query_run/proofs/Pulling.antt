@@ -1,16 +1,16 @@
 -- The rows that the boxes of a rack pulled in a run, kind by kind.
-use Rattle.query_run.proofs.Prelude.{All, Bool, BoxPicture, HasFullCount, HasStock, Kind, List, PulledMore, RunsPlan, Some, Spec, [], ap, arith, both_ways, cases_Bool, box_at, cases_lt, cond, count_by, ended-later, false, first_of, get_or, get_or-append-add, get_or-map, inl, inr, is_of, kind_of, kinds_of, kinds_taken, left_after, length, length-append, length-map, no_box, pulled_by, pulled_since, refl, same_kind, some-rest, stock-here, stock-step, subst, suc, sym, taken-kinds, taken-length, taken_for, true, without_first, ℕ, ◌++◌, ◌+◌, ◌-◌, ◌<◌, ◌∙◌, ◌∷◌, ◌≡◌, ◌≤◌, ◌⊎◌}
+use Rattle.query_run.proofs.Imports.{All, Bool, BoxPicture, HasFullCount, HasStock, Kind, List, PulledMore, RunsPlan, Some, Spec, [], ap, arith, both_ways, cases_Bool, box_at, cases_lt, cond, count_by, ended-later, false, first_box_of, get_or, get_or-append-add, get_or-map, inl, inr, is_of, kind_of, kinds_of, kinds_taken, left_after, length, length-append, length-map, no_box, pulled_by_boxes, pulled_since, refl, same_kind, some-rest, stock-here, stock-step, subst, suc, sym, taken-kinds, taken-length, taken_for, true, without_first_box, ℕ, ◌++◌, ◌+◌, ◌-◌, ◌<◌, ◌∙◌, ◌∷◌, ◌≡◌, ◌≤◌, ◌⊎◌}
 use Rattle.query_model.specs.declared.processor_spec.Kind.TheVariants as kind
 
 pulled-append : (k : Kind) (xs ys : List BoxPicture)
-    → pulled_by k (xs ++ ys) ≡ pulled_by k xs + pulled_by k ys
+    → pulled_by_boxes k (xs ++ ys) ≡ pulled_by_boxes k xs + pulled_by_boxes k ys
 pulled-append k [] ys = omega arith
 pulled-append k (x ∷ xs) ys = let rest = pulled-append k xs ys in omega (arith, rest)
 
 -- taking a box out takes its rows out
 pulled-without : (k j : Kind) (boxes : List BoxPicture) → 0 < count_by (is_of j) boxes
-    → pulled_by k boxes ≡ cond (is_of k (first_of j boxes))
-    (first_of j boxes).pulled 0 + pulled_by k (without_first j boxes)
+    → pulled_by_boxes k boxes ≡ cond (is_of k (first_box_of j boxes))
+    (first_box_of j boxes).pulled 0 + pulled_by_boxes k (without_first_box j boxes)
 pulled-without k j [] some = absurd (omega (arith, some))
 pulled-without k j (p ∷ boxes) some = elim (cases_Bool (is_of j p)) [
   | inl here ↦ rw here refl
@@ -21,11 +21,12 @@ pulled-without k j (p ∷ boxes) some = elim (cases_Bool (is_of j p)) [
 
 -- what the rack's boxes have pulled is what the taken ones have, and what those that are left have
 pub pulled-taken : (k : Kind) (kinds : List Kind) (boxes : List BoxPicture) → HasStock kinds boxes
-    → pulled_by k boxes ≡ pulled_by k (taken_for kinds boxes) + pulled_by k (left_after kinds boxes)
+    → pulled_by_boxes k boxes ≡ pulled_by_boxes k (taken_for kinds boxes) + pulled_by_boxes k
+    (left_after kinds boxes)
 pulled-taken k [] boxes h = omega arith
 pulled-taken k (j ∷ kinds) boxes h =
     let first = pulled-without k j boxes (stock-here j kinds boxes h) in
-    let rest = pulled-taken k kinds (without_first j boxes) (stock-step j kinds boxes h) in
+    let rest = pulled-taken k kinds (without_first_box j boxes) (stock-step j kinds boxes h) in
     omega (arith, first, rest)
 
 -- ---- taken boxes, as a run left them, and as they were given back
@@ -52,7 +53,7 @@ pub pulled-given : (k : Kind) (taken ended given : List BoxPicture) → length e
     → length given ≡ length taken
     → ((n : ℕ) → n < length taken
     → IsGivenMore k (box_at taken n) (box_at ended n) (box_at given n))
-    → pulled_by k given ≡ pulled_by k taken + pulled_since k ended
+    → pulled_by_boxes k given ≡ pulled_by_boxes k taken + pulled_since k ended
 unfolding box_at
 pulled-given k [] [] [] el gl each = refl
 pulled-given k (p ∷ taken) (q ∷ ended) (r ∷ given) el gl each =
@@ -128,14 +129,14 @@ module _ (specs : List Spec) (kept : List Kind) (before after ended : List BoxPi
 
   -- the rack's boxes have pulled what they had, and what the taken ones pulled since they were
   -- loaded
-  pub pulled-after : pulled_by k after ≡ pulled_by k before + pulled_since k ended
+  pub pulled-after : pulled_by_boxes k after ≡ pulled_by_boxes k before + pulled_since k ended
   pulled-after =
-      let rack : pulled_by k after ≡ pulled_by k left + pulled_by k run.given =
-      ap (λ l. pulled_by k l) run.rack
+      let rack : pulled_by_boxes k after ≡ pulled_by_boxes k left + pulled_by_boxes k run.given =
+      ap (λ l. pulled_by_boxes k l) run.rack
       ∙ pulled-append k left run.given in
-      let had : pulled_by k before ≡ pulled_by k taken + pulled_by k left =
+      let had : pulled_by_boxes k before ≡ pulled_by_boxes k taken + pulled_by_boxes k left =
       pulled-taken k kinds before stock in
-      let more : pulled_by k run.given ≡ pulled_by k taken + pulled_since k ended =
+      let more : pulled_by_boxes k run.given ≡ pulled_by_boxes k taken + pulled_since k ended =
       pulled-given k taken ended run.given (sym same-count) (run.given_count ∙ sym same-count)
       each-given in
       omega (arith, rack, had, more)

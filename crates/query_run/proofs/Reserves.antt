@@ -1,5 +1,5 @@
 -- What a plan keeps for its lists: which nodes each reserve has, and that they make a graph.
-use Rattle.query_run.proofs.Prelude.{All, All-append, All-nil, All-replicate, AreReserves, Bool, DraftNode, IsGraph, IsGraphSoFar, KeepsBehind, Kind, List, PartSpec, PlanReserve, Reserve, Wire, [], and_from, and_parts, ap, append-nil, append_assoc, arith, cases_Bool, cases_lt, edges_kept, eq-eqb, eqb-true, false, get_or, get_or-append_seam, get_or_append_left, graph-reserved, holds_node, inl, inr, is-gapless, is_reserved, kind_of, kinds_reserved, le-leb, leb-true, length, length-append, length-replicate, list_any-append, lt-leb, lt-ltb, ltb-true, nat_le, ne_eqb, no_reserve, none-reserved, refl, replicate, replicate-append-replicate, reserve-added, reserve_at, reserve_of, reserved_edges, reserved_nodes, reserves_behind, reserves_from, same_kind, spec_at, specs_in, subst, suc, sum_by-cons, sum_by_push, sym, take, true, wire_at, zero, ℕ, ◌&&◌, ◌++◌, ◌+◌, ◌<◌, ◌==◌, ◌||◌, ◌∙◌, ◌∷◌, ◌≡◌, ◌≢◌, ◌≤◌}
+use Rattle.query_run.proofs.Imports.{All, All-append, All-nil, All-replicate, AreReserves, Bool, DraftNode, IsGraph, IsGraphSoFar, KeepsBehind, Kind, List, PartSpec, PlanReserve, Reserve, Wire, [], and_from, and_parts, ap, append-nil, append_assoc, arith, cases_Bool, cases_lt, edges_kept, eq-eqb, eqb-true, false, get_or, get_or-append_seam, get_or_append_left, graph-reserved, holds_node, inl, inr, is-gapless, is_reserved, kind_of, kinds_reserved, le-leb, leb-true, length, length-append, length-replicate, list_any-append, lt-leb, lt-ltb, ltb-true, nat_le, ne_eqb, no_reserve, none-reserved, refl, replicate, replicate-append-replicate, reserve-added, reserve_at, reserve_of, reserved_edges, reserved_nodes, reserves_behind, reserves_from, same_kind, spec_at, specs_in, subst, suc, sum_by-cons, sum_by_push, sym, take, true, wire_at, zero, ℕ, ◌&&◌, ◌++◌, ◌+◌, ◌<◌, ◌==◌, ◌||◌, ◌∙◌, ◌∷◌, ◌≡◌, ◌≢◌, ◌≤◌}
 use Rattle.query_model.specs.declared.processor_spec.Kind.TheVariants as kind
 use Rattle.query_model.specs.declared.processor_spec.Spec.TheVariants as spec
 

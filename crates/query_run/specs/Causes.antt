@@ -20,7 +20,7 @@ use Rattle.exec_laws.specs.declared.growth.GrowthFlaw.{GrowthFlaw}
 use Rattle.plan_ends.specs.Ended.{used_part}
 use Rattle.plan_graph.specs.declared.nodes.DraftNode.{DraftNode}
 use Rattle.pipeline_exec.specs.Ends.{EndsBadly}
-use Rattle.plan_run.specs.Plans.{Begins, GivesBack, spec_at, taken_at}
+use Rattle.plan_run.specs.Plans.{GivesBack, GraphBegins, spec_at, taken_at}
 use Rattle.query_run.specs.declared.ending.PartName.{PartName}
 use Rattle.query_run.specs.declared.ending.PartFailure.{PartFailure}
 use Rattle.query_run.specs.declared.ending.PartFailure.TheVariants as part
@@ -123,7 +123,8 @@ pub record FailsAtPart (name : PartName) (f : PartFailure) (c : Command) (q : Ch
 -- the run was left stuck with this node, or ended by a growth of the node that has a flaw
 abbrev pub IsStoppedBy : List DraftNode → (ended : List BoxPicture) → (node : ℕ) → Type 0
 IsStoppedBy nodes ended node = ((report : List StuckNode) × IsStuck ended report node)
-    ⊎ Begins (formed nodes) (kinds_for nodes) (λ b. (f : GrowthFlaw) × EndsBadly b ended node f)
+    ⊎ GraphBegins (formed nodes) (kinds_for nodes)
+    (λ b. (f : GrowthFlaw) × EndsBadly b ended node f)
 
 -- The plan ran, and was stopped by a node whose box is of the kind and isn't lawful.
 pub record EndsUnlawful (k : Kind) (c : Command) (q : Checked) (before after : List BoxPicture)

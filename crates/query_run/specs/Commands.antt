@@ -1,6 +1,6 @@
 -- What a command's text means: its checked query, or why it is refused.
 use Rattle.std.specs.Prelude.{◌≡◌, ℕ, List, map, Some, None}
-use Rattle.query_model.specs.Names.{IsDue, IsTypedQuery, from_types, IsChecked, use_of, query_tables, refusal_of}
+use Rattle.query_model.specs.Names.{IsDueRefusal, IsTypedQuery, from_types, IsChecked, use_of, query_tables, refusal_of}
 use Rattle.query_model.specs.declared.query.Query.{Query}
 use Rattle.query_model.specs.declared.query.Refusal.{Refusal}
 use Rattle.query_model.specs.declared.query.Schema.{Schema}
@@ -54,7 +54,7 @@ OfQuery words P = OfCommand words (λ c. OfChecked c (P c))
 pub record IsRefusedQuery (command : Command) (refusal : Refusal) : Type 0 where
   pub query : Query
   pub read : IsReadFrom query command.query
-  pub due : IsDue query (schemas_of command) refusal
+  pub due : IsDueRefusal query (schemas_of command) refusal
 
 -- why a command has no checked query; want of memory is free
 abbrev pub IsRefusedFor : Refused → Command → Type 0

@@ -5,8 +5,7 @@ use Rattle.query_model.specs.declared.places.BadField.{BadField}
 use Rattle.query_model.specs.declared.query.Refusal.{Refusal}
 use Rattle.query_model.specs.declared.places.BadField.TheVariants as field
 use Rattle.query_model.specs.declared.query.Refusal.TheVariants as refuse
-use Rattle.query_model.specs.declared.processor_spec.Kind.{Kind}
-use Rattle.query_model.specs.declared.processor_spec.Kind.TheVariants as kind
+use Rattle.proc_api.specs.KindRows.{kind_name}
 use Rattle.sql_text.specs.declared.limits.ParseRefusal.{ParseRefusal}
 use Rattle.sql_text.specs.declared.limits.ParseRefusal.TheVariants as parse
 use Rattle.query_run.specs.declared.ending.PartName.{PartName}
@@ -18,8 +17,8 @@ use Rattle.query_run.specs.declared.ending.PlanFailure.{PlanFailure}
 use Rattle.query_run.specs.declared.ending.PlanFailure.TheVariants as plan
 use Rattle.query_run.specs.declared.ending.Failure.{Failure}
 use Rattle.query_run.specs.declared.ending.Failure.TheVariants as failure
-use Rattle.query_run.specs.declared.telling.Piece.{Piece}
-use Rattle.query_run.specs.declared.telling.Piece.TheVariants as piece
+use Rattle.query_run.specs.declared.telling.LinePiece.{LinePiece}
+use Rattle.query_run.specs.declared.telling.LinePiece.TheVariants as piece
 use Rattle.query_run.specs.declared.ending.Ending.{Ending}
 use Rattle.query_run.specs.declared.ending.Ending.TheVariants.{Answered, Failed, WriteFailed}
 
@@ -83,21 +82,6 @@ query_line (refuse.NotGrouped name) = codes "qrun: refused: NotGrouped " ++ name
 query_line (refuse.BadOrderKey name) = codes "qrun: refused: BadOrderKey " ++ name
 query_line refuse.TooWide = codes "qrun: refused: TooWide"
 query_line refuse.Memory = codes "qrun: out of memory"
-
-abbrev pub kind_name : Kind → List ℕ
-kind_name kind.Csv = codes "Csv"
-kind_name kind.List = codes "List"
-kind_name kind.Numbers = codes "Numbers"
-kind_name kind.Filter = codes "Filter"
-kind_name kind.Expression = codes "Expression"
-kind_name kind.Resize = codes "Resize"
-kind_name kind.PartialAggregate = codes "PartialAggregate"
-kind_name kind.MergeAggregate = codes "MergeAggregate"
-kind_name kind.HashJoin = codes "HashJoin"
-kind_name kind.Sort = codes "Sort"
-kind_name kind.MergeSorted = codes "MergeSorted"
-kind_name kind.Limit = codes "Limit"
-kind_name kind.Collect = codes "Collect"
 
 -- a part of a table, or its list
 abbrev pub place_words : ℕ → List ℕ
@@ -163,7 +147,7 @@ line_of (Failed f) = failure_line f ++ 10 ∷ []
 line_of WriteFailed = codes "qrun: write fault" ++ 10 ∷ []
 
 -- the bytes of a piece of a line
-abbrev pub piece_bytes : Piece → List ℕ
+abbrev pub piece_bytes : LinePiece → List ℕ
 piece_bytes (piece.Text text) = text.now
 piece_bytes (piece.Number n) = decimal n
 

@@ -20,7 +20,7 @@ use Rattle.query_run.specs.declared.ending.PartFailure.TheVariants as part
 use Rattle.query_run.specs.declared.ending.Ending.{Ending}
 use Rattle.query_run.specs.declared.ending.Ending.TheVariants.{Answered, Failed, WriteFailed}
 use Rattle.query_run.specs.Endings.{status_of, line_of, TellsLine}
-use Rattle.plan_meaning.specs.Plans.{HasEnough}
+use Rattle.plan_meaning.specs.Plans.{HasEnoughRows}
 use Rattle.query_run.specs.Racks.{boxes_for, IsHonest, IsRunnable, LacksBoxes, NamesFewPaths, OverFiles, PulledMore, RanPlan}
 use Rattle.query_run.specs.Commands.{IsAccepted, IsCheckedCommand, OfCommand, OfQuery}
 use Rattle.query_run.specs.Causes.{FailsAtPart, FailsFor, TakesBoxes, UsesList}
@@ -37,7 +37,7 @@ IsPlain (Grouped g) = ⊥
 pub record IsCutShort (header : Bool) (files : Files) (tables : List TableDecl)
     (q : Checked) : Type 0
   where
-    pub enough_rows : HasEnough q.limit (output_rows q (database header files tables))
+    pub enough_rows : HasEnoughRows q.limit (output_rows q (database header files tables))
     pub ungrouped : IsPlain q.shape
     pub unordered : q.order ≡ []
     pub joined :

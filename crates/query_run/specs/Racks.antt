@@ -5,9 +5,8 @@ use Rattle.query_model.specs.Names.{Files, used_tables, query_boxes}
 use Rattle.query_model.specs.declared.checked.Checked.{Checked}
 use Rattle.query_model.specs.declared.processor_spec.Spec.{Spec}
 use Rattle.query_model.specs.declared.processor_spec.Kind.{Kind}
-use Rattle.query_model.specs.declared.processor_spec.Kind.TheVariants as kind
 use Rattle.command_line.specs.declared.words.Command.{Command}
-use Rattle.proc_api.specs.Names.{BoxPicture, IsSourceKind, is_of, kind_place}
+use Rattle.proc_api.specs.Names.{BoxPicture, IsSourceKind, is_of, kind_place, stock_of}
 use Rattle.plan_graph.specs.declared.nodes.DraftNode.{DraftNode}
 use Rattle.plan_meaning.specs.Names.{SelectPlan, plan_nodes, forms}
 use Rattle.select_planner.specs.Refusals.{first_crowded}
@@ -19,22 +18,6 @@ use Rattle.plan_run.specs.Plans.{kinds_taken, RunsPlan}
 use Rattle.query_run.specs.declared.stock.Shortage.{Shortage}
 
 -- ---- honest racks
-
--- the stock of each kind
-abbrev pub stock_of : Kind → ℕ
-stock_of kind.Csv = 64
-stock_of kind.List = 2
-stock_of kind.Numbers = 2
-stock_of kind.Filter = 17
-stock_of kind.Expression = 17
-stock_of kind.Resize = 4
-stock_of kind.PartialAggregate = 16
-stock_of kind.MergeAggregate = 1
-stock_of kind.HashJoin = 1
-stock_of kind.Sort = 16
-stock_of kind.MergeSorted = 1
-stock_of kind.Limit = 1
-stock_of kind.Collect = 1
 
 abbrev pub HasStandardStock : List BoxPicture → Type 0
 HasStandardStock boxes = (k : Kind) → stock_of k ≤ count_by (is_of k) boxes
@@ -114,12 +97,13 @@ pub record RanPlan (c : Command) (q : Checked) (before after : List BoxPicture) 
 -- ---- pulled rows
 
 -- the rows that the boxes of a kind have pulled together
-abbrev pub pulled_by : Kind → List BoxPicture → ℕ
-pulled_by k [] = 0
-pulled_by k (p ∷ boxes) = cond (is_of k p) p.pulled 0 + pulled_by k boxes
+abbrev pub pulled_by_boxes : Kind → List BoxPicture → ℕ
+pulled_by_boxes k [] = 0
+pulled_by_boxes k (p ∷ boxes) = cond (is_of k p) p.pulled 0 + pulled_by_boxes k boxes
 
 -- The boxes of a kind pulled so many rows more, where a number is said, unless one has a full
 -- count.
 abbrev pub PulledMore : Kind → (before after : List BoxPicture) → Option ℕ → Type 0
 PulledMore k before after rows =
-    IfSome rows (λ n. (pulled_by k after ≡ pulled_by k before + n) ⊎ HasFullCount k after)
+    IfSome rows (λ n. (pulled_by_boxes k after ≡ pulled_by_boxes k before + n)
+    ⊎ HasFullCount k after)

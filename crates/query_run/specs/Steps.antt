@@ -18,9 +18,9 @@ use Rattle.select_planner.specs.declared.nodes.Plan.{Plan}
 use Rattle.select_planner.specs.declared.nodes.PlanNode.{PlanNode}
 use Rattle.select_planner.specs.declared.nodes.PlanReserve.{PlanReserve}
 use Rattle.select_planner.specs.Boxes.{reserved_nodes}
-use Rattle.select_planner.specs.Shapes.{IsSound, LaysDown, reserves_from}
+use Rattle.select_planner.specs.Shapes.{IsSoundPlan, LaysDown, reserves_from}
 use Rattle.query_run.specs.Racks.{plan_of}
-use Rattle.plan_run.specs.Plans.{Begins, GivesRows, RunsPlan, kinds_taken}
+use Rattle.plan_run.specs.Plans.{GivesRows, GraphBegins, RunsPlan, kinds_taken}
 use Rattle.plan_run.specs.declared.run.GraphForm.{GraphForm}
 use Rattle.plan_run.specs.declared.run.PlanFault.{PlanFault}
 use Rattle.plan_run.specs.declared.run.PlanFault.TheVariants as end
@@ -97,7 +97,7 @@ formed nodes = record {
 -- the plan is that of the query
 pub record IsPlanned (c : Command) (q : Checked) (p : Plan) : Type 0 where
   pub laid : LaysDown (plan_nodes (plan_of c q)) p
-  pub sound : IsSound q c.tables c.threads p
+  pub sound : IsSoundPlan q c.tables c.threads p
 
 -- ---- what it gives
 
@@ -105,7 +105,7 @@ pub record IsPlanned (c : Command) (q : Checked) (p : Plan) : Type 0 where
 pub record GivesText (header : Bool) (names : List (List ℕ)) (specs : List Spec) (kept : List Kind)
     (form : GraphForm) (before after : List BoxPicture) (text : List ℕ) : Type 0 where
   pub chunks : List Table
-  pub gives : Begins form (kinds_taken specs kept)
+  pub gives : GraphBegins form (kinds_taken specs kept)
       (GivesRows (RunsPlan specs kept before after) (length specs) chunks)
   pub is : text ≡ answer_text header names (chunk_rows chunks)
 

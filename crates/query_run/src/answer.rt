@@ -4,7 +4,7 @@ ghost use Rattle.std.specs.Option.{option_copied};
 ghost use Rattle.command_line.specs.Words.{IsWithinLimits};
 ghost use Rattle.proc_api.specs.Names.{IsBlank};
 ghost use Rattle.plan_run.specs.Stock.{HasStock};
-ghost use Rattle.plan_run.specs.Plans.{kinds_taken, Begins, KeepsBehind, LeavesRack, PlanFaultHolds, RunsPlan};
+ghost use Rattle.plan_run.specs.Plans.{kinds_taken, GraphBegins, KeepsBehind, LeavesRack, PlanFaultHolds, RunsPlan};
 ghost use Rattle.query_run.specs.declared.ending.PlanFailure.TheVariants as failures;
 ghost use Rattle.query_run.specs.Names.{IsRunnable, IsCheckedCommand, OfQuery, FailsFor, PlanFailsFor, MakesText, failure_of, name_at, GivesText, IsPlanFault, IsPlanned, Tells};
 
@@ -21,10 +21,11 @@ use query_model::checked::Checked;
 use query_model::query::TableDecl;
 use select_planner::{Plan, PlanRefusal, plan};
 use std::alloc::Global;
+use std::sync::Wait;
 use std::thread::Threads;
 
 /// The text of the answer of the command that the words mean, made by the boxes of the rack.
-pub(crate) fn make_text<R: AllocGlobal + Threads + Sync>(
+pub(crate) fn make_text<R: AllocGlobal + Threads + Wait + Sync>(
     rt: &R,
     words: &[String],
     rack: &mut Rack,
@@ -53,7 +54,7 @@ pub(crate) fn make_text<R: AllocGlobal + Threads + Sync>(
 }
 
 /// The text of the answer of a command's checked query.
-fn checked_text<R: AllocGlobal + Threads + Sync>(
+fn checked_text<R: AllocGlobal + Threads + Wait + Sync>(
     rt: &R,
     command: &Command,
     checked: &Checked,
@@ -90,7 +91,7 @@ fn checked_text<R: AllocGlobal + Threads + Sync>(
 }
 
 /// The text of the answer of a checked query by its plan, for which the rack has the boxes.
-fn planned_text<R: AllocGlobal + Threads + Sync>(
+fn planned_text<R: AllocGlobal + Threads + Wait + Sync>(
     rt: &R,
     command: &Command,
     checked: &Checked,
@@ -134,7 +135,7 @@ fn planned_text<R: AllocGlobal + Threads + Sync>(
 }
 
 /// The text of what the graph of a plan gives.
-fn graph_text<R: AllocGlobal + Threads + Sync>(
+fn graph_text<R: AllocGlobal + Threads + Wait + Sync>(
     rt: &R,
     rack: &mut Rack,
     graph: PlanGraph,
@@ -158,7 +159,7 @@ fn graph_text<R: AllocGlobal + Threads + Sync>(
         graph.form (map (λ b. seen (b.vtable, b.value)) rack.old.boxes.items)
         (map (λ b. seen (b.vtable, b.value)) rack.new.boxes.items) text.items) }
     ensures fault { IfErr result (λ f. PlanFaultHolds f
-        (Begins graph.form (kinds_taken graph.specs.items graph.kept))
+        (GraphBegins graph.form (kinds_taken graph.specs.items graph.kept))
         (RunsPlan graph.specs.items graph.kept
         (map (λ b. seen (b.vtable, b.value)) rack.old.boxes.items)
         (map (λ b. seen (b.vtable, b.value)) rack.new.boxes.items))) }

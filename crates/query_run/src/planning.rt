@@ -1,6 +1,6 @@
 // The graph of a plan, and the parts that its boxes serve.
 ghost use Rattle.std.specs.Prelude.{◌≡◌, ◌+◌, ◌++◌, ◌≤◌, length, map, replicate, IfOk, OnOk, slice_get};
-ghost use Rattle.select_planner.specs.Shapes.{plan_ranks, plan_wires, wire_of};
+ghost use Rattle.select_planner.specs.Shapes.{plan_ranks, plan_wire_of, plan_wires};
 ghost use Rattle.select_planner.specs.Boxes.{reserved_nodes};
 ghost use Rattle.query_run.specs.Racks.{kinds_reserved};
 ghost use Rattle.query_run.specs.Steps.{edges_kept, kept_places, name_of, name_at, node_specs, part_place, places_in, reserves_behind, spec_read};
@@ -207,7 +207,7 @@ fn ranks_of(alloc: Global, nodes: &[PlanNode], unborn: usize) -> Result<List<u32
 }
 
 fn wires_of(alloc: Global, edges: &[PlanEdge]) -> Result<List<Wire>, Memory>
-    ensures { IfOk result (λ wires. wires ≡ map wire_of edges.now) }
+    ensures { IfOk result (λ wires. wires ≡ map plan_wire_of edges.now) }
 {
     let mut wires = Vec::new(alloc);
     for edge in edges {

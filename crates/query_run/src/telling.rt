@@ -2,7 +2,8 @@ ghost use Rattle.std.specs.Prelude.{◌≡◌, ◌≤◌, ◌++◌, ◌∷◌, [
 ghost use Rattle.outside_io.specs.Counts.{CountIncreased};
 ghost use Rattle.query_run.specs.declared.ending.PlanFailure.TheVariants as plan;
 ghost use Rattle.query_run.specs.declared.ending.PartFailure.TheVariants as part;
-ghost use Rattle.query_run.specs.Endings.{text_line, query_line, refused_line, kind_name, part_words, place_words, field_words, plan_line, failure_line, piece_bytes, TellsLine, Writes};
+ghost use Rattle.proc_api.specs.KindRows.{kind_name};
+ghost use Rattle.query_run.specs.Endings.{text_line, query_line, refused_line, part_words, place_words, field_words, plan_line, failure_line, piece_bytes, TellsLine, Writes};
 
 use crate::ending::{Failure, PartFailure, PartName, PlanFailure, Refused};
 use itoa::Buffer;
@@ -14,21 +15,21 @@ use sql_text::ParseRefusal;
 
 /// A piece of a line.
 #[derive(Clone, Copy)]
-pub(crate) enum Piece<'a> {
+pub(crate) enum LinePiece<'a> {
     Text(&'a [u8]),
     /// In decimal.
     Number(u64),
 }
 
 /// The pieces of a line, in order; the last ones are empty where it has fewer.
-type Line<'a> = [Piece<'a>; 10];
+type Line<'a> = [LinePiece<'a>; 10];
 
-const END: Piece<'static> = Piece::Text(b"\n");
+const END: LinePiece<'static> = LinePiece::Text(b"\n");
 
-const NONE: Piece<'static> = Piece::Text(b"");
+const NONE: LinePiece<'static> = LinePiece::Text(b"");
 
 /// Writes the pieces one after another, until the sink fails.
-pub(crate) fn tell<E: Sink>(err: &mut E, pieces: &[Piece<'_>])
+pub(crate) fn tell<E: Sink>(err: &mut E, pieces: &[LinePiece<'_>])
     ensures line { TellsLine (flat_map piece_bytes pieces.now)
         (E.written err.old) (E.written err.new)
         (CountIncreased (E.faults err.old) (E.faults err.new)) }
@@ -37,7 +38,7 @@ pub(crate) fn tell<E: Sink>(err: &mut E, pieces: &[Piece<'_>])
     let _ = write_pieces(err, pieces);
 }
 
-fn write_pieces<E: Sink>(err: &mut E, pieces: &[Piece<'_>]) -> Result<(), WriteFault>
+fn write_pieces<E: Sink>(err: &mut E, pieces: &[LinePiece<'_>]) -> Result<(), WriteFault>
     ensures line { Writes (flat_map piece_bytes pieces.now)
         (E.written err.old) (E.written err.new)
         (CountIncreased (E.faults err.old) (E.faults err.new)) result }
@@ -52,15 +53,15 @@ fn write_pieces<E: Sink>(err: &mut E, pieces: &[Piece<'_>]) -> Result<(), WriteF
     Ok(())
 }
 
-fn write_piece<E: Sink>(err: &mut E, piece: Piece<'_>) -> Result<(), WriteFault>
+fn write_piece<E: Sink>(err: &mut E, piece: LinePiece<'_>) -> Result<(), WriteFault>
     ensures line { Writes (piece_bytes piece.entry)
         (E.written err.old) (E.written err.new)
         (CountIncreased (E.faults err.old) (E.faults err.new)) result }
     ensures faults_kept { E.faults err.old ≤ E.faults err.new }
 {
     match piece {
-        Piece::Text(text) => write_all(err, text),
-        Piece::Number(number) => {
+        LinePiece::Text(text) => write_all(err, text),
+        LinePiece::Number(number) => {
             let mut digits = Buffer::new();
             write_all(err, digits.format(number).as_bytes())
         }
@@ -93,8 +94,8 @@ fn named<'a>(front: &'static [u8], name: &'a [u8]) -> Line<'a>
     ensures { flat_map piece_bytes result ≡ front.now ++ name.now ++ 10 ∷ [] }
 {
     [
-        Piece::Text(front),
-        Piece::Text(name),
+        LinePiece::Text(front),
+        LinePiece::Text(name),
         END,
         NONE,
         NONE,
@@ -123,11 +124,11 @@ fn plan_pieces(failure: &PlanFailure) -> Line<'_>
 {
     match failure {
         PlanFailure::Paths(name, count) => [
-            Piece::Text(b"qrun: limit: paths of "),
-            Piece::Text(name.as_slice()),
-            Piece::Text(b" are "),
-            Piece::Number(*count),
-            Piece::Text(b", at most 32"),
+            LinePiece::Text(b"qrun: limit: paths of "),
+            LinePiece::Text(name.as_slice()),
+            LinePiece::Text(b" are "),
+            LinePiece::Number(*count),
+            LinePiece::Text(b", at most 32"),
             END,
             NONE,
             NONE,
@@ -135,12 +136,12 @@ fn plan_pieces(failure: &PlanFailure) -> Line<'_>
             NONE,
         ],
         PlanFailure::Stock(short) => [
-            Piece::Text(b"qrun: limit: boxes of kind "),
-            Piece::Text(kind_name(&short.kind)),
-            Piece::Text(b" needed "),
-            Piece::Number(short.needed as u64),
-            Piece::Text(b", rack has "),
-            Piece::Number(short.there as u64),
+            LinePiece::Text(b"qrun: limit: boxes of kind "),
+            LinePiece::Text(kind_name(&short.kind)),
+            LinePiece::Text(b" needed "),
+            LinePiece::Number(short.needed as u64),
+            LinePiece::Text(b", rack has "),
+            LinePiece::Number(short.there as u64),
             END,
             NONE,
             NONE,
@@ -175,12 +176,12 @@ fn named_part<'a>(front: &'static [u8], name: &'a PartName, back: &'static [u8])
 {
     let (word, number) = place_words(name.part);
     [
-        Piece::Text(front),
-        Piece::Text(b"table "),
-        Piece::Text(name.table.as_slice()),
-        Piece::Text(word),
+        LinePiece::Text(front),
+        LinePiece::Text(b"table "),
+        LinePiece::Text(name.table.as_slice()),
+        LinePiece::Text(word),
         number,
-        Piece::Text(back),
+        LinePiece::Text(back),
         END,
         NONE,
         NONE,
@@ -189,13 +190,13 @@ fn named_part<'a>(front: &'static [u8], name: &'a PartName, back: &'static [u8])
 }
 
 /// A part of a table, or its list.
-fn place_words(part: u32) -> (&'static [u8], Piece<'static>)
+fn place_words(part: u32) -> (&'static [u8], LinePiece<'static>)
     ensures { result.0.now ++ piece_bytes result.1 ≡ place_words part }
 {
     if part == 0 {
         (b" list", NONE)
     } else {
-        (b" part ", Piece::Number(part as u64))
+        (b" part ", LinePiece::Number(part as u64))
     }
 }
 
@@ -204,11 +205,11 @@ fn line_pieces(name: &PartName, line: u64) -> Line<'_>
         ≡ plan_line (plan.Part name.now (part.BadList line)) ++ 10 ∷ [] }
 {
     [
-        Piece::Text(b"qrun: bad list: "),
-        Piece::Text(b"table "),
-        Piece::Text(name.table.as_slice()),
-        Piece::Text(b" line "),
-        Piece::Number(line),
+        LinePiece::Text(b"qrun: bad list: "),
+        LinePiece::Text(b"table "),
+        LinePiece::Text(name.table.as_slice()),
+        LinePiece::Text(b" line "),
+        LinePiece::Number(line),
         END,
         NONE,
         NONE,
@@ -224,15 +225,15 @@ fn place_pieces(name: &PartName, place: BadPlace) -> Line<'_>
     let (part, of_part) = place_words(name.part);
     let (word, number) = field_words(place.field);
     [
-        Piece::Text(b"qrun: bad data: "),
-        Piece::Text(b"table "),
-        Piece::Text(name.table.as_slice()),
-        Piece::Text(part),
+        LinePiece::Text(b"qrun: bad data: "),
+        LinePiece::Text(b"table "),
+        LinePiece::Text(name.table.as_slice()),
+        LinePiece::Text(part),
         of_part,
-        Piece::Text(b" row "),
-        Piece::Number(place.row),
-        Piece::Text(word),
-        Piece::Number(number),
+        LinePiece::Text(b" row "),
+        LinePiece::Number(place.row),
+        LinePiece::Text(word),
+        LinePiece::Number(number),
         END,
     ]
 }

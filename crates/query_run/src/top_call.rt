@@ -8,6 +8,7 @@ use crate::answer::make_text;
 use crate::ending::Ending;
 use outside_io::{Sink, WriteFault, write_all};
 use proc_api::Rack;
+use std::sync::Wait;
 use std::thread::Threads;
 
 /// Runs the command that the words mean, which are those after the program's name, by boxes of the
@@ -17,7 +18,7 @@ use std::thread::Threads;
 /// another cause; a line that tells of any other end goes to `err`. The answer is the exit status:
 /// 0 answered, 1 usage, 2 refused, 3 bad data, 4 a read fault or a reader that stalled, 5 a write
 /// fault, 6 a limit, 7 out of memory. The files are read by the readers of the rack's sources.
-pub fn run<R: AllocGlobal + Threads + Sync, O: Sink, E: Sink>(
+pub fn run<R: AllocGlobal + Threads + Wait + Sync, O: Sink, E: Sink>(
     rt: &R,
     words: &[String],
     rack: &mut Rack,
@@ -40,7 +41,7 @@ pub fn run<R: AllocGlobal + Threads + Sync, O: Sink, E: Sink>(
     ending.status()
 }
 
-fn end_of<R: AllocGlobal + Threads + Sync, O: Sink>(
+fn end_of<R: AllocGlobal + Threads + Wait + Sync, O: Sink>(
     rt: &R,
     words: &[String],
     rack: &mut Rack,

@@ -1,6 +1,6 @@
 -- The boxes of a kind that a query's plan uses are as many as the query needs.
 use Rattle.std.proofs.lemmas.Grind.{common_steps}
-use Rattle.select_planner.proofs.Prelude.{Checked, CheckedJoin, ColumnType, Cond, Count, Declared, DraftNode, Grouped, Kind, Numbers, PartsDecl, Plain, Shape, SortKey, Span, TableDecl, TableUse, append-nil, append_assoc, count_by-le-length, counted, each_kept, filter_count, gather_count, if_declared, if_filtered, if_limited, if_ordered, if_unordered, kind_of, length-take-le, limit_count, list_sources_need, query_boxes, none-of, of_kind, part_sources_need, plan-counted, plan_count, plan_nodes, same_kind, sort_count, sources_count, sum_by-append, sum_by-cons, sum_by-replicate, sum_by-take-le, sum_by_more, table_need, take_more, Bool, List, None, Option, Some, [], ap, arith, cond, false, get_or, length, refl, replicate, slice_get, suc, sum_by, sym, take, true, ℕ, ◌*◌, ◌++◌, ◌+◌, ◌<◌, ◌∙◌, ◌∷◌, ◌≡◌, ◌≤◌, PlanReserve, reserved_nodes, boxes_reserved, boxes_taken, PlanNode, kept_at, reserves_from, Reading, declared_sources, order_of, part_sources, path_sources, select_plan, table_sources}
+use Rattle.select_planner.proofs.Imports.{Checked, CheckedJoin, ColumnType, Cond, Count, Declared, DraftNode, Grouped, Kind, Numbers, PartsDecl, Plain, Shape, SortKey, Span, TableDecl, TableUse, append-nil, append_assoc, count_by-le-length, count_over, each_kept, filter_count, gather_count, if_declared, if_filtered, if_limited, if_ordered, if_unordered, kind_of, length-take-le, limit_count, list_sources_need, query_boxes, none-of, of_kind, part_sources_need, plan-counted, plan_count, plan_nodes, same_kind, sort_count, sources_count, sum_by-append, sum_by-cons, sum_by-replicate, sum_by-take-le, sum_by_more, table_need, take_more, Bool, List, None, Option, Some, [], ap, arith, cond, false, get_or, length, refl, replicate, slice_get, suc, sum_by, sym, take, true, ℕ, ◌*◌, ◌++◌, ◌+◌, ◌<◌, ◌∙◌, ◌∷◌, ◌≡◌, ◌≤◌, PlanReserve, reserved_nodes, boxes_reserved, boxes_taken, PlanNode, kept_at, reserves_from, SourceReading, declared_sources, order_of, part_sources, path_sources, select_plan, table_sources}
 use Rattle.query_model.specs.declared.processor_spec.Kind.TheVariants as kind
 use Rattle.query_model.specs.declared.processor_spec.Spec.TheVariants as spec
 
@@ -21,13 +21,13 @@ boxes_for k s takes = of_kind k s takes
 
 -- ---- step by step
 
-paths-need : (k : Kind) (r : Reading) (i : ℕ) (paths : List (List ℕ))
+paths-need : (k : Kind) (r : SourceReading) (i : ℕ) (paths : List (List ℕ))
     → sources_count (boxes_for k) (path_sources r i paths) ≡ only k kind.Csv (length paths)
 paths-need k r i [] = sym (none-of (same_kind kind.Csv k))
 paths-need k r i (path ∷ paths) =
     search (arith, sum_by-cons, only-more, paths-need k r (suc i) paths)
 
-parts-need : (k : Kind) (r : Reading) (parts : PartsDecl)
+parts-need : (k : Kind) (r : SourceReading) (parts : PartsDecl)
     → sources_count (boxes_for k) (part_sources r parts)
     ≡ only k kind.Csv (part_sources_need parts) + only k kind.List (list_sources_need parts)
 parts-need k r parts = grind (arith, none-of, paths-need, sum_by-cons)
@@ -133,7 +133,7 @@ plan-need q tables lanes rows header k = go k q.shape q.join refl refl
 
 -- The nodes of a kind of a query's plan are as many as the query needs.
 pub plan-needs : (q : Checked) (tables : List TableDecl) (lanes rows : ℕ) (header : Bool) (k : Kind)
-    → counted (boxes_for k) (plan_nodes (select_plan q tables lanes rows header))
+    → count_over (boxes_for k) (plan_nodes (select_plan q tables lanes rows header))
     ≡ query_boxes q tables lanes k
 plan-needs q tables lanes rows header k = search (arith, plan-counted, plan-need)
 
@@ -143,20 +143,20 @@ plan-needs q tables lanes rows header k = search (arith, plan-counted, plan-need
 kept-counted : (f : PlanReserve → ℕ) (a : DraftNode → ℕ) (w : Count)
     → ((n : ℕ) (z : DraftNode) → a z + sum_by f (kept_at n z) ≡ w z.spec z.takes)
     → (n : ℕ) (nodes : List DraftNode)
-    → sum_by a nodes + sum_by f (reserves_from n nodes) ≡ counted w nodes
+    → sum_by a nodes + sum_by f (reserves_from n nodes) ≡ count_over w nodes
 kept-counted f a w each n [] = refl
 kept-counted f a w each n (z ∷ nodes) =
     search (arith, sum_by-cons, sum_by-append, kept-counted f a w each (suc n) nodes)
 
 -- The nodes of a list of nodes and the boxes that are kept for them, by kind.
 pub boxes-counted : (k : Kind) (n : ℕ) (nodes : List DraftNode)
-    → counted (of_kind k) nodes + sum_by (boxes_reserved k) (reserves_from n nodes)
-    ≡ counted (boxes_for k) nodes
+    → count_over (of_kind k) nodes + sum_by (boxes_reserved k) (reserves_from n nodes)
+    ≡ count_over (boxes_for k) nodes
 boxes-counted k n nodes = search (arith, kept-counted, sum_by-replicate, only-times, sum_by-cons)
 
 -- The nodes and those that are kept for them.
 pub nodes-kept : (n : ℕ) (nodes : List DraftNode)
-    → length nodes + reserved_nodes (reserves_from n nodes) ≡ counted each_kept nodes
+    → length nodes + reserved_nodes (reserves_from n nodes) ≡ count_over each_kept nodes
 nodes-kept n nodes =
     let ones = kept-counted (λ (r : PlanReserve). length r.kinds) (λ z. 1) each_kept
     (λ n z. each n z (same_kind (kind_of z.spec) kind.List) refl) n nodes in

@@ -1,5 +1,5 @@
 -- What was laid down is a graph, and takes as many boxes of each kind as the query needs.
-use Rattle.select_planner.proofs.Prelude.{Bool, List, [], ap, arith, cond, length, map, subst, sum_by, sym, ℕ, ◌++◌, ◌+◌, ◌∙◌, ◌∷◌, ◌≡◌, Checked, Draft, DraftNode, IsGraph, IsSmall, Kind, NodeForm, TableDecl, append-nil, append_assoc, counted, counted-same, kind-same, length-map, map-id, map-map, query_boxes, no_draft, of_kind, plan-graph, plan_nodes, same_kind, sum_by-map, with_node, with_nodes, Plan, reserved_nodes, boxes_needed, boxes_taken, boxes_reserved, edge_of, wire_of, plan_ranks, plan_wires, IsSound, LaysDown, select_plan}
+use Rattle.select_planner.proofs.Imports.{Bool, List, [], ap, arith, cond, length, map, subst, sum_by, sym, ℕ, ◌++◌, ◌+◌, ◌∙◌, ◌∷◌, ◌≡◌, Checked, Draft, DraftNode, IsGraph, IsSmall, Kind, NodeForm, TableDecl, append-nil, append_assoc, count_over, counted-same, kind-same, length-map, map-id, map-map, query_boxes, no_draft, of_kind, plan-graph, plan_nodes, same_kind, sum_by-map, with_node, with_nodes, Plan, reserved_nodes, boxes_needed, boxes_taken, boxes_reserved, plan_edge_of, plan_wire_of, plan_ranks, plan_wires, IsSoundPlan, LaysDown, select_plan}
 use Rattle.query_model.specs.declared.processor_spec.Kind.TheVariants as kind
 use Rattle.select_planner.proofs.BoxCounts.{boxes-counted, boxes_for, nodes-kept, plan-needs}
 
@@ -11,7 +11,8 @@ pub needs-are : (q : Checked) (tables : List TableDecl) (lanes rows : ℕ) (head
     → boxes_needed p k ≡ query_boxes q tables lanes k
 needs-are q tables lanes rows header p l k =
     let steps : List DraftNode = plan_nodes (select_plan q tables lanes rows header) in
-    let taken : boxes_taken k p.nodes ≡ counted (of_kind k) l.copies = grind (arith, sum_by-map) in
+    let taken : boxes_taken k p.nodes ≡ count_over (of_kind k) l.copies =
+    grind (arith, sum_by-map) in
     let kept = ap (sum_by (boxes_reserved k)) l.reserves in
     let whole = counted-same (boxes_for k) (λ x y form. ap (λ j. cond (same_kind j k) 1 0
     + cond (same_kind j kind.List) (cond (same_kind kind.Csv k) 32 0) 0)
@@ -29,13 +30,14 @@ ranks-are (n ∷ nodes) d = grind (arith, append_assoc, ranks-are nodes (with_no
 -- A plan that was laid down is a graph, and takes as many boxes as the query needs.
 pub is-sound : (q : Checked) (tables : List TableDecl) (lanes rows : ℕ) (header : Bool) (p : Plan)
     → IsSmall (select_plan q tables lanes rows header)
-    → LaysDown (plan_nodes (select_plan q tables lanes rows header)) p → IsSound q tables lanes p
+    → LaysDown (plan_nodes (select_plan q tables lanes rows header)) p
+    → IsSoundPlan q tables lanes p
 is-sound q tables lanes rows header p small l =
     let g = plan-graph (select_plan q tables lanes rows header) l.copies small l.same in
     let drawn : Draft = with_nodes l.copies no_draft in
     let ranks : plan_ranks p ≡ drawn.ranks = grind (arith, map-map, ranks-are) in
-    let wires : plan_wires p ≡ drawn.wires = ap (map wire_of) l.edges
-    ∙ map-map wire_of edge_of drawn.wires ∙ map-id drawn.wires in
+    let wires : plan_wires p ≡ drawn.wires = ap (map plan_wire_of) l.edges
+    ∙ map-map plan_wire_of plan_edge_of drawn.wires ∙ map-id drawn.wires in
     let count : length p.nodes ≡ length l.copies = grind (arith, length-map) in
     let few = g.few in
     let edges : length p.edges ≡ length drawn.wires = grind (arith, length-map) in

@@ -1,6 +1,6 @@
 -- The steps of a plan, laid down one behind another.
 use Rattle.std.proofs.lemmas.Grind.{common_steps}
-use Rattle.select_planner.proofs.Prelude.{Bool, List, None, Some, [], ap, arith, false, get_or, length, map, nat_lt, refl, slice_get, suc, sum_by, sym, take, zero, ℕ, ◌++◌, ◌+◌, ◌<◌, ◌∙◌, ◌∷◌, ◌≡◌, ◌≤◌, AggCall, Checked, Declared, DraftNode, Expr, FewSources, IsSmall, PartSpec, PartsDecl, Paths, Spec, TableDecl, TableUse, append_assoc, call_arguments, columns_of, formula, forms, kept_for, lane_nodes, length-take-le, map-append, nat_tests, plan_nodes, source_nodes, spec_form, sum_by-cons, take_more, used_tables, with_argument, path_count, crowded_decl, crowded, first_crowded, Reading, part_spec, path_sources, part_sources, table_sources, select_plan}
+use Rattle.select_planner.proofs.Imports.{Bool, List, None, Some, [], ap, arith, false, get_or, length, map, nat_lt, refl, slice_get, suc, sum_by, sym, take, zero, ℕ, ◌++◌, ◌+◌, ◌<◌, ◌∙◌, ◌∷◌, ◌≡◌, ◌≤◌, AggCall, Checked, Declared, DraftNode, Expr, FewSources, IsSmall, PartSpec, PartsDecl, Paths, Spec, TableDecl, TableUse, append_assoc, call_arguments, column_items, formula, forms, kept_for, lane_nodes, length-take-le, map-append, nat_tests, plan_nodes, source_nodes, spec_form, sum_by-cons, take_more, used_tables, with_argument, path_count, crowded_decl, crowded, first_crowded, SourceReading, part_spec, path_sources, part_sources, table_sources, select_plan}
 use Rattle.query_model.specs.declared.processor_spec.Spec.TheVariants as spec
 
 -- two blocks more
@@ -43,7 +43,7 @@ sources-append i (x ∷ xs) ys =
     (sources-append (suc i) xs ys
     ∙ ap (λ k. source_nodes (suc i) xs ++ source_nodes k ys) same)
 
-paths-push : (r : Reading) (k : ℕ) (paths : List (List ℕ)) (path : List ℕ)
+paths-push : (r : SourceReading) (k : ℕ) (paths : List (List ℕ)) (path : List ℕ)
     → path_sources r k (paths ++ path ∷ [])
     ≡ path_sources r k paths ++ spec.Csv (part_spec r (k + length paths) path) ∷ []
 paths-push r k [] path = search (arith)
@@ -53,13 +53,13 @@ paths-push r k (p ∷ paths) path =
     (paths-push r (suc k) paths path
     ∙ ap (λ n. path_sources r (suc k) paths ++ spec.Csv (part_spec r n path) ∷ []) same)
 
-paths-length : (r : Reading) (k : ℕ) (paths : List (List ℕ))
+paths-length : (r : SourceReading) (k : ℕ) (paths : List (List ℕ))
     → length (path_sources r k paths) ≡ length paths
 paths-length r k [] = refl
 paths-length r k (path ∷ paths) = ap suc (paths-length r (suc k) paths)
 
 -- the source of a path more, behind so many open ends
-pub path-more : (r : Reading) (place : ℕ) (paths : List (List ℕ)) (path : List ℕ)
+pub path-more : (r : SourceReading) (place : ℕ) (paths : List (List ℕ)) (path : List ℕ)
     (part : PartSpec) (i : ℕ)
     (x y z : List DraftNode) → i < length paths → path ≡ get_or paths i path
     → part ≡ part_spec r (i + 1) path
@@ -79,7 +79,7 @@ path-more r at paths path part i x y z lt is same h g = grind (
 ) steps 1500000
 
 -- as many sources as paths
-pub parts-count : (r : Reading) (d : PartsDecl) (paths : List (List ℕ)) → d ≡ Paths paths
+pub parts-count : (r : SourceReading) (d : PartsDecl) (paths : List (List ℕ)) → d ≡ Paths paths
     → length paths ≡ length (part_sources r d)
 parts-count r d paths e = search (arith, paths-length)
 
@@ -97,12 +97,12 @@ not-crowded n b e f = let off : nat_lt 32 n ≡ false = e ∙ f in grind (arith,
 pub few-paths : (decl : TableDecl) → crowded_decl (Some decl) ≡ None → path_count decl.parts ≤ 32
 few-paths decl e = grind (arith, not-crowded)
 
-paths-kept : (r : Reading) (k : ℕ) (paths : List (List ℕ))
+paths-kept : (r : SourceReading) (k : ℕ) (paths : List (List ℕ))
     → sum_by kept_for (path_sources r k paths) ≡ 0
 paths-kept r k [] = refl
 paths-kept r k (path ∷ paths) = grind (arith, sum_by-cons, paths-kept r (suc k) paths)
 
-few-parts : (r : Reading) (d : PartsDecl) → path_count d ≤ 32 → FewSources (part_sources r d)
+few-parts : (r : SourceReading) (d : PartsDecl) → path_count d ≤ 32 → FewSources (part_sources r d)
 few-parts r d few = grind (arith, paths-length, paths-kept)
 
 few-sources : (tables : List TableDecl) (header : Bool) (rows : ℕ) (u : TableUse)
@@ -145,9 +145,9 @@ arguments-push (c ∷ calls) call = grind (arith, arguments-push calls call)
 -- the argument of a call more
 pub argument-more : (keys : List ℕ) (calls : List (AggCall ℕ)) (call : AggCall ℕ) (i : ℕ)
     (x y : List Expr) → i < length calls → call ≡ get_or calls i call
-    → map formula x ≡ map formula (columns_of keys ++ call_arguments (take i calls))
+    → map formula x ≡ map formula (column_items keys ++ call_arguments (take i calls))
     → map formula y ≡ map formula x ++ map formula (with_argument call.arg [])
-    → map formula y ≡ map formula (columns_of keys ++ call_arguments (take (i + 1) calls))
+    → map formula y ≡ map formula (column_items keys ++ call_arguments (take (i + 1) calls))
 argument-more keys calls call i x y lt is h e =
     grind (arith, common_steps, take_more, arguments-push, map-append, append_assoc)
 

@@ -1,5 +1,4 @@
-pub mod Prelude
+pub mod Imports
 pub mod Laying
 pub mod BoxCounts
 pub mod Laws
-mod Cited

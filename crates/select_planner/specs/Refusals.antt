@@ -33,10 +33,11 @@ first_crowded tables [] = None
 first_crowded tables (use' ∷ uses) = or_else (crowded tables use') (first_crowded tables uses)
 
 -- the refusal names this table; want of memory is free
-abbrev pub IsCrowded : Option NamedPaths → PlanRefusal → Type 0
-IsCrowded table (TooManyParts name count) = table ≡ Some (record { name = name; count = count })
-IsCrowded table Memory = ⊤
+abbrev pub IsCrowdedTable : Option NamedPaths → PlanRefusal → Type 0
+IsCrowdedTable table (TooManyParts name count) =
+    table ≡ Some (record { name = name; count = count })
+IsCrowdedTable table Memory = ⊤
 
 -- the refusal is due: it names the first table that names more than 32 paths
-abbrev pub IsDue : Checked → List TableDecl → PlanRefusal → Type 0
-IsDue q tables = IsCrowded (first_crowded tables (used_tables q))
+abbrev pub IsDuePlanRefusal : Checked → List TableDecl → PlanRefusal → Type 0
+IsDuePlanRefusal q tables = IsCrowdedTable (first_crowded tables (used_tables q))

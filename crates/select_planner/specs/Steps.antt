@@ -5,13 +5,13 @@ use Rattle.query_model.specs.declared.processor_spec.Spec.TheVariants as spec
 
 -- how the parts of a table are read: the place of the table, the types of its columns, whether the
 -- first record is passed over, and the most rows of a chunk
-pub record Reading : Type 0 where
+pub record SourceReading : Type 0 where
   pub table : ℕ
   pub types : List ColumnType
   pub header : Bool
   pub rows : ℕ
 
-abbrev pub part_spec : Reading → ℕ → List ℕ → PartSpec
+abbrev pub part_spec : SourceReading → ℕ → List ℕ → PartSpec
 part_spec r part path = record {
   table = r.table;
   part = part;
@@ -22,16 +22,16 @@ part_spec r part path = record {
 }
 
 -- a source for each path, of which the first is that of part k
-abbrev pub path_sources : Reading → ℕ → List (List ℕ) → List Spec
+abbrev pub path_sources : SourceReading → ℕ → List (List ℕ) → List Spec
 path_sources r k [] = []
 path_sources r k (path ∷ paths) = spec.Csv (part_spec r k path) ∷ path_sources r (suc k) paths
 
-abbrev pub part_sources : Reading → PartsDecl → List Spec
+abbrev pub part_sources : SourceReading → PartsDecl → List Spec
 part_sources r (Paths paths) = path_sources r 1 paths
 part_sources r (ListFile path) = spec.List (part_spec r 0 path) ∷ []
 
-abbrev pub reading_of : (header : Bool) (rows table : ℕ) → TableDecl → Reading
-reading_of header rows t decl = record {
+abbrev pub table_reading : (header : Bool) (rows table : ℕ) → TableDecl → SourceReading
+table_reading header rows t decl = record {
   table = t;
   types = column_types decl.schema;
   header = header;
@@ -41,7 +41,7 @@ reading_of header rows t decl = record {
 abbrev pub declared_sources : (header : Bool) (rows table : ℕ) → Option TableDecl → List Spec
 declared_sources header rows t None = []
 declared_sources header rows t (Some decl) =
-    part_sources (reading_of header rows t decl) decl.parts
+    part_sources (table_reading header rows t decl) decl.parts
 
 -- the sources of a used table: its parts, its list file, or the numbers
 abbrev pub table_sources : List TableDecl → (header : Bool) (rows : ℕ) → TableUse → List Spec

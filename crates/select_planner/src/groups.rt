@@ -2,7 +2,7 @@
 ghost use Rattle.std.specs.Prelude.{◌≡◌, ◌++◌, [], map, IfOk, OnOk};
 ghost use Rattle.query_model.specs.Formulas.{formula};
 ghost use Rattle.chunk_data.specs.Values.{type_at as type_at_place};
-ghost use Rattle.plan_meaning.specs.Names.{call_arguments, columns_of, group_spec, state_of, with_argument};
+ghost use Rattle.plan_meaning.specs.Names.{call_arguments, column_items, group_spec, state_call, with_argument};
 
 use chunk_data::{ColumnType, List, Memory, type_at};
 use query_model::checked::{Expr, Grouping};
@@ -13,7 +13,7 @@ use std::alloc::Global;
 
 /// The columns at these places.
 pub(crate) fn columns_of(alloc: Global, places: &[u32]) -> Result<List<Expr>, Memory>
-    ensures { IfOk result (λ items. items ≡ columns_of places.now) }
+    ensures { IfOk result (λ items. items ≡ column_items places.now) }
 {
     let mut items = Vec::new(alloc);
     for place in places {
@@ -29,7 +29,7 @@ pub(crate) fn arguments_of(
     calls: &[AggCall<u32>],
 ) -> Result<List<Expr>, Memory>
     ensures { IfOk result (λ items. map formula items
-        ≡ map formula (columns_of keys.now ++ call_arguments calls.now)) }
+        ≡ map formula (column_items keys.now ++ call_arguments calls.now)) }
 {
     let mut items = columns_of(alloc, keys)?;
     for call in calls {
@@ -89,7 +89,7 @@ fn states_of(
     calls: &[AggCall<u32>],
     types: &[ColumnType],
 ) -> Result<List<StateCall>, Memory>
-    ensures { IfOk result (λ states. states ≡ map (state_of types.now) calls.now) }
+    ensures { IfOk result (λ states. states ≡ map (state_call types.now) calls.now) }
 {
     let mut states = Vec::new(alloc);
     for call in calls {
@@ -99,7 +99,7 @@ fn states_of(
 }
 
 fn state_of(call: &AggCall<u32>, types: &[ColumnType]) -> StateCall
-    ensures { result ≡ state_of types.now call.now }
+    ensures { result ≡ state_call types.now call.now }
 {
     let kind = match (call.op, &call.arg) {
         (AggOp::Count, _) | (_, None) => ColumnType::UInt64,

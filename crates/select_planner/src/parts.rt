@@ -4,8 +4,8 @@ ghost use Rattle.query_model.specs.Database.{used_tables};
 ghost use Rattle.query_model.specs.declared.query.ColumnDecl.{ColumnDecl};
 ghost use Rattle.plan_graph.specs.Blocks.{source_nodes};
 ghost use Rattle.plan_meaning.specs.Same.{forms};
-ghost use Rattle.select_planner.specs.Refusals.{crowded, crowded_decl, first_crowded, path_count, IsCrowded, IsDue};
-ghost use Rattle.select_planner.specs.Steps.{join_spec, part_sources, part_spec, path_sources, reading_of, source_types, table_nodes, table_sources, used_types};
+ghost use Rattle.select_planner.specs.Refusals.{crowded, crowded_decl, first_crowded, path_count, IsCrowdedTable, IsDuePlanRefusal};
+ghost use Rattle.select_planner.specs.Steps.{join_spec, part_sources, part_spec, path_sources, source_types, table_nodes, table_reading, table_sources, used_types};
 
 use crate::lanes::add_node;
 use crate::nodes::PlanRefusal;
@@ -21,7 +21,7 @@ pub(crate) const MAX_PARTS: u32 = 32;
 
 /// How the parts of a table are read, and behind how many open ends its sources stand.
 #[derive(Clone, Copy)]
-pub(crate) struct Reading {
+pub(crate) struct SourceReading {
     pub header: bool,
     pub rows: u32,
     pub place: u32,
@@ -30,7 +30,7 @@ pub(crate) struct Reading {
 /// Refuses a used table that names more than 32 paths, that of FROM first.
 pub(crate) fn check_tables(query: &Checked, tables: &[TableDecl]) -> Result<(), PlanRefusal>
     ensures ok { OnOk result (first_crowded tables.now (used_tables query.now) ≡ None) }
-    ensures err { IfErr result (IsDue query.now tables.now) }
+    ensures err { IfErr result (IsDuePlanRefusal query.now tables.now) }
 {
     check_table(query.from, tables)?;
     match &query.join {
@@ -41,7 +41,7 @@ pub(crate) fn check_tables(query: &Checked, tables: &[TableDecl]) -> Result<(), 
 
 fn check_table(table: TableUse, tables: &[TableDecl]) -> Result<(), PlanRefusal>
     ensures ok { OnOk result (crowded tables.now table ≡ None) }
-    ensures err { IfErr result (IsCrowded (crowded tables.now table)) }
+    ensures err { IfErr result (IsCrowdedTable (crowded tables.now table)) }
 {
     match table {
         TableUse::Numbers(_) => Ok(()),
@@ -54,7 +54,7 @@ fn check_table(table: TableUse, tables: &[TableDecl]) -> Result<(), PlanRefusal>
 
 fn check_declared(decl: &TableDecl) -> Result<(), PlanRefusal>
     ensures ok { OnOk result (crowded_decl (Some decl.now) ≡ None) }
-    ensures err { IfErr result (IsCrowded (crowded_decl (Some decl.now))) }
+    ensures err { IfErr result (IsCrowdedTable (crowded_decl (Some decl.now))) }
 {
     let count = paths_named(&decl.parts);
     if count <= MAX_PARTS as usize {
@@ -81,7 +81,7 @@ pub(crate) fn add_table(
     nodes: &mut List<DraftNode>,
     table: TableUse,
     tables: &[TableDecl],
-    reading: Reading,
+    reading: SourceReading,
     lanes: u32,
 ) -> Result<(), Memory>
     requires few_parts { crowded tables.now table ≡ None }
@@ -106,7 +106,7 @@ fn add_sources(
     nodes: &mut List<DraftNode>,
     table: TableUse,
     tables: &[TableDecl],
-    reading: Reading,
+    reading: SourceReading,
 ) -> Result<u32, Memory>
     requires few_parts { crowded tables.now table ≡ None }
     requires place { reading.place ≤ 1 }
@@ -148,15 +148,15 @@ fn add_declared(
     nodes: &mut List<DraftNode>,
     table: u32,
     decl: &TableDecl,
-    reading: Reading,
+    reading: SourceReading,
 ) -> Result<u32, Memory>
     requires few_parts { path_count decl.now.parts ≤ 32 }
     requires place { reading.place ≤ 1 }
     ensures nodes { OnOk result (forms nodes.new ≡ forms nodes.old
         ++ forms (source_nodes reading.place
-        (part_sources (reading_of reading.header reading.rows table decl.now) decl.now.parts))) }
+        (part_sources (table_reading reading.header reading.rows table decl.now) decl.now.parts))) }
     ensures count { IfOk result (λ n. n ≡ length
-        (part_sources (reading_of reading.header reading.rows table decl.now) decl.now.parts)) }
+        (part_sources (table_reading reading.header reading.rows table decl.now) decl.now.parts)) }
 {
     match &decl.parts {
         PartsDecl::Paths(paths) => {
@@ -177,12 +177,12 @@ fn add_paths(
     table: u32,
     decl: &TableDecl,
     paths: &[Bytes],
-    reading: Reading,
+    reading: SourceReading,
 ) -> Result<(), Memory>
     requires few_parts { length paths.now ≤ 32 }
     requires place { reading.place ≤ 1 }
     ensures { OnOk result (forms nodes.new ≡ forms nodes.old ++ forms (source_nodes reading.place
-        (path_sources (reading_of reading.header reading.rows table decl.now) 1 paths.now))) }
+        (path_sources (table_reading reading.header reading.rows table decl.now) 1 paths.now))) }
 {
     for i in 0..paths.len() {
         let part = part_spec(alloc, table, decl, i as u32 + 1, &paths[i], reading)?;
@@ -198,10 +198,10 @@ fn part_spec(
     decl: &TableDecl,
     part: u32,
     path: &Bytes,
-    reading: Reading,
+    reading: SourceReading,
 ) -> Result<PartSpec, Memory>
     ensures { IfOk result (λ spec. spec ≡ part_spec
-        (reading_of reading.header reading.rows table decl.now) part path.now) }
+        (table_reading reading.header reading.rows table decl.now) part path.now) }
 {
     let path = path.copy()?;
     let types = types_of(alloc, decl.schema.columns.as_slice())?;

@@ -5,8 +5,8 @@ ghost use Rattle.query_model.specs.declared.checked.Shape.TheVariants.{Grouped};
 ghost use Rattle.query_model.specs.declared.processor_spec.Kind.TheVariants as csv;
 ghost use Rattle.plan_graph.specs.Drafts.{AllFitDraft, no_draft, with_nodes};
 ghost use Rattle.plan_meaning.specs.Names.{forms, plan_nodes, read_nodes, shape_nodes, shape_of};
-ghost use Rattle.select_planner.specs.Refusals.{first_crowded, IsDue};
-ghost use Rattle.select_planner.specs.Shapes.{edge_of, kept_at, node_of, reserves_from, IsSound, LaysDown};
+ghost use Rattle.select_planner.specs.Refusals.{first_crowded, IsDuePlanRefusal};
+ghost use Rattle.select_planner.specs.Shapes.{plan_edge_of, kept_at, plan_node_of, reserves_from, IsSoundPlan, LaysDown};
 ghost use Rattle.select_planner.specs.Boxes.{reserved_nodes};
 ghost use Rattle.select_planner.specs.Steps.{join_of, order_of, select_plan, source_types, table_sources};
 
@@ -15,7 +15,7 @@ use crate::lanes::{
     add_filters, add_gather, add_items, add_joint, add_limit, add_partials, add_sort,
 };
 use crate::nodes::{Plan, PlanEdge, PlanNode, PlanRefusal, PlanReserve};
-use crate::parts::{MAX_PARTS, Reading, add_table, check_tables, join_spec, source_types};
+use crate::parts::{MAX_PARTS, SourceReading, add_table, check_tables, join_spec, source_types};
 use chunk_data::{ColumnType, List, Memory};
 use plan_graph::{DraftNode, build};
 use port_word::Wire;
@@ -38,12 +38,12 @@ pub fn plan(
     requires few_lanes { lanes ≤ 16 }
     ensures steps { IfOk result (LaysDown
         (plan_nodes (select_plan query.now tables.now lanes chunk_rows header))) }
-    ensures sound { IfOk result (IsSound query.now tables.now lanes) }
+    ensures sound { IfOk result (IsSoundPlan query.now tables.now lanes) }
     ensures accepted { IfOk result (λ p. first_crowded tables.now (used_tables query.now) ≡ None) }
-    ensures refused { IfErr result (IsDue query.now tables.now) }
+    ensures refused { IfErr result (IsDuePlanRefusal query.now tables.now) }
 {
     check_tables(query, tables.as_slice())?;
-    let reading = Reading {
+    let reading = SourceReading {
         header,
         rows: chunk_rows,
         place: 0,
@@ -65,7 +65,7 @@ fn lay_steps(
     query: &Checked,
     tables: &[TableDecl],
     lanes: u32,
-    reading: Reading,
+    reading: SourceReading,
 ) -> Result<(), Memory>
     requires empty { nodes.old ≡ [] }
     requires few_lanes { lanes ≤ 16 }
@@ -88,7 +88,7 @@ fn add_read(
     query: &Checked,
     tables: &[TableDecl],
     lanes: u32,
-    reading: Reading,
+    reading: SourceReading,
 ) -> Result<(), Memory>
     requires few_parts { first_crowded tables.now (used_tables query.now) ≡ None }
     requires at_start { reading.place ≡ 0 }
@@ -100,7 +100,7 @@ fn add_read(
         None => add_table(alloc, nodes, query.from, tables, reading, lanes),
         Some(join) => {
             add_table(alloc, nodes, query.from, tables, reading, 1)?;
-            let second = Reading {
+            let second = SourceReading {
                 header: reading.header,
                 rows: reading.rows,
                 place: 1,
@@ -190,8 +190,9 @@ fn order_of(query: &Checked, rows: u32) -> Result<Option<SortSpec>, Memory>
 fn plan_of(alloc: Global, nodes: List<DraftNode>) -> Result<Plan, Memory>
     requires fit { AllFitDraft nodes no_draft }
     requires few_nodes { length nodes + reserved_nodes (reserves_from 0 nodes) ≤ 256 }
-    ensures nodes { IfOk result (λ p. p.nodes ≡ map node_of nodes) }
-    ensures edges { IfOk result (λ p. p.edges ≡ map edge_of (with_nodes nodes no_draft).wires) }
+    ensures nodes { IfOk result (λ p. p.nodes ≡ map plan_node_of nodes) }
+    ensures edges { IfOk result
+        (λ p. p.edges ≡ map plan_edge_of (with_nodes nodes no_draft).wires) }
     ensures reserves { IfOk result (λ p. p.reserves ≡ reserves_from 0 nodes) }
 {
     let graph = build(alloc, nodes.as_slice())?;
@@ -253,7 +254,7 @@ fn listed_kinds(alloc: Global) -> Result<List<Kind>, Memory>
 }
 
 fn edges_of(alloc: Global, wires: &[Wire]) -> Result<List<PlanEdge>, Memory>
-    ensures { IfOk result (λ edges. edges ≡ map edge_of wires.now) }
+    ensures { IfOk result (λ edges. edges ≡ map plan_edge_of wires.now) }
 {
     let mut edges = Vec::new(alloc);
     for wire in wires {
@@ -268,7 +269,7 @@ fn edges_of(alloc: Global, wires: &[Wire]) -> Result<List<PlanEdge>, Memory>
 }
 
 fn nodes_of(alloc: Global, nodes: List<DraftNode>) -> Result<List<PlanNode>, Memory>
-    ensures { IfOk result (λ l. l ≡ map node_of nodes) }
+    ensures { IfOk result (λ l. l ≡ map plan_node_of nodes) }
 {
     let mut planned = Vec::new(alloc);
     for node in nodes.into_vec() {

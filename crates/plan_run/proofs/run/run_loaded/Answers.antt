@@ -7,8 +7,9 @@ pub result_of-result-requires-clause-born : goal.result_of-result-requires-claus
 result_of-result-requires-clause-born g c =
     let count = map-len (λ b. (goal.Processor-dyn g (b.vtable, b.value)).seen b.value)
     c.args.boxes.items in
-    starting-born c.args.form c.args.nodes _ _ c.requires.graph (c.requires.one_each ∙ sym count)
-    (omega (arith, count)) c.requires.starting c.run_graph-boxes.ensures.back
+    starting-born c.args.form c.args.nodes _ _ c.requires.form.graph
+    (c.requires.form.one_each ∙ sym count) (omega (arith, count)) c.requires.starting
+    c.run_graph-boxes.ensures.back
 
 pub returns-clause-later : goal.returns-clause-later
 returns-clause-later g c = run-later _ _ _ c.run_graph-boxes.ensures.back

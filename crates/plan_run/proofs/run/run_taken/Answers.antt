@@ -19,8 +19,8 @@ load_boxes-requires-clause-enough g c =
 pub run_loaded-requires-clause-starting : goal.run_loaded-requires-clause-starting
 run_loaded-requires-clause-starting g c κs lives =
     loaded-starting c.args.plan.specs.items c.args.plan.form _ _
-    (c.requires.one_each ∙ sym (boxes-count c.args.plan.specs.items c.args.plan.kept _
-    c.requires.kinds)) c.requires.graph c.requires.blank c.in-Ok.ensures.ok
+    (c.requires.plan.one_each ∙ sym (boxes-count c.args.plan.specs.items c.args.plan.kept _
+    c.requires.kinds)) c.requires.plan.graph c.requires.blank c.in-Ok.ensures.ok
 
 pub returns-in-Ok-clause-later : goal.returns-in-Ok-clause-later
 returns-in-Ok-clause-later g c = still-then-later _ _ _ c.in-Ok.ensures.still

@@ -1,5 +1,5 @@
-use Rattle.query_run.proofs.Prelude.{Table, ap₂, chunk_rows, flat_map, heading, rows_text, ◌++◌, ◌∙◌}
-use Rattle.query_run.proofs.Composing.{headed}
+use Rattle.query_run.proofs.Imports.{Table, ap₂, chunk_rows, flat_map, heading, rows_text, ◌++◌, ◌∙◌}
+use Rattle.query_run.proofs.Composing.{heading_before_rows}
 use Rattle.query_run.proofs.answer.graph_text.Goals as goal
 
 pub returns-in-Ok-write_rows-clause-text : goal.returns-in-Ok-write_rows-clause-text
@@ -9,5 +9,5 @@ returns-in-Ok-write_rows-clause-text g c = record {
   is = c.in-Ok-write_rows.ensures
       ∙ ap₂ (λ o l. heading o ++ rows_text (flat_map (λ (t : Table). t.rows) l))
       c.heading_names-heading.ensures c.as_slice.ensures.value
-      ∙ headed c.args.header c.args.names.now (chunk_rows c.in-Ok.chunks.items);
+      ∙ heading_before_rows c.args.header c.args.names.now (chunk_rows c.in-Ok.chunks.items);
 }

@@ -1,4 +1,4 @@
-use Rattle.query_run.proofs.Prelude.{refl}
+use Rattle.query_run.proofs.Imports.{refl}
 use Rattle.query_run.proofs.Causes.{plan-fault}
 use Rattle.query_run.proofs.Planned.{few-edges, made-cause, made-graph, made-some, made-stock, made-text, one-each}
 use Rattle.query_run.proofs.answer.planned_text.Goals as goal

@@ -1,4 +1,4 @@
-use Rattle.query_run.proofs.Prelude.{IsDue, List, Schema, TableDecl, analysable_of_read, ap, map, subst, ◌∙◌}
+use Rattle.query_run.proofs.Imports.{IsDueRefusal, List, Schema, TableDecl, analysable_of_read, ap, map, subst, ◌∙◌}
 use Rattle.query_run.proofs.Commands.{checked_command}
 use Rattle.query_run.proofs.checking.analysed.Goals as goal
 
@@ -16,7 +16,7 @@ pub returns-clause-refused : goal.returns-clause-refused
 returns-clause-refused c = record {
   query = c.args.query;
   read = c.requires;
-  due = subst (λ (s : List Schema). IsDue c.args.query s c.in-Err.refusal)
+  due = subst (λ (s : List Schema). IsDueRefusal c.args.query s c.in-Err.refusal)
       (c.in-Ok.ensures ∙ ap (map (λ (t : TableDecl). t.schema)) c.as_slice.ensures)
       c.in-Err.ensures.refused;
 }

@@ -1,4 +1,4 @@
-use Rattle.query_run.proofs.Prelude.{take, ◌≡◌}
+use Rattle.query_run.proofs.Imports.{take, ◌≡◌}
 use Rattle.query_run.proofs.checking.columns_copy.Given as goal
 
 abbrev pub invariant-loop-column : goal.invariant-loop-column

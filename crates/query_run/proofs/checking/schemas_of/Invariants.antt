@@ -1,4 +1,4 @@
-use Rattle.query_run.proofs.Prelude.{TableDecl, map, take, ◌≡◌}
+use Rattle.query_run.proofs.Imports.{TableDecl, map, take, ◌≡◌}
 use Rattle.query_run.proofs.checking.schemas_of.Given as goal
 
 abbrev pub invariant-loop-table : goal.invariant-loop-table

@@ -1,4 +1,4 @@
-use Rattle.query_run.proofs.Prelude.{rules}
+use Rattle.query_run.proofs.Imports.{rules}
 use Rattle.query_run.proofs.NextKept.{place-pushed}
 use Rattle.query_run.proofs.planning.add_kept.Goals as goal
 

@@ -1,4 +1,4 @@
-use Rattle.query_run.proofs.Prelude.{kept_places, ◌++◌, ◌≡◌}
+use Rattle.query_run.proofs.Imports.{kept_places, ◌++◌, ◌≡◌}
 use Rattle.query_run.proofs.planning.add_kept.Given as goal
 
 abbrev pub invariant-loop-part : goal.invariant-loop-part

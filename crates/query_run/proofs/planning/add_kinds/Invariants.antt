@@ -1,4 +1,4 @@
-use Rattle.query_run.proofs.Prelude.{take, ◌++◌, ◌≡◌}
+use Rattle.query_run.proofs.Imports.{take, ◌++◌, ◌≡◌}
 use Rattle.query_run.proofs.planning.add_kinds.Given as goal
 
 abbrev pub invariant-loop-kind : goal.invariant-loop-kind

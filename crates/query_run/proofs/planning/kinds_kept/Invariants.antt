@@ -1,4 +1,4 @@
-use Rattle.query_run.proofs.Prelude.{kinds_reserved, take, ◌≡◌}
+use Rattle.query_run.proofs.Imports.{kinds_reserved, take, ◌≡◌}
 use Rattle.query_run.proofs.planning.kinds_kept.Given as goal
 
 abbrev pub invariant-loop-reserve : goal.invariant-loop-reserve

@@ -1,4 +1,4 @@
-use Rattle.query_run.proofs.Prelude.{flat_map, map, node_specs, part_place, take, ◌++◌, ◌≡◌}
+use Rattle.query_run.proofs.Imports.{flat_map, map, node_specs, part_place, take, ◌++◌, ◌≡◌}
 use Rattle.query_run.proofs.Kept.{kept_of}
 use Rattle.query_run.proofs.planning.part_places.Given as goal
 

@@ -1,4 +1,4 @@
-use Rattle.query_run.proofs.Prelude.{PlanNode, map, replicate, take, ◌++◌, ◌≡◌}
+use Rattle.query_run.proofs.Imports.{PlanNode, map, replicate, take, ◌++◌, ◌≡◌}
 use Rattle.query_run.proofs.planning.ranks_of.Given as goal
 
 abbrev pub invariant-loop-node : goal.invariant-loop-node

@@ -1,4 +1,4 @@
-use Rattle.query_run.proofs.Prelude.{arith, length, rules, ◌<◌, ◌≡◌}
+use Rattle.query_run.proofs.Imports.{arith, length, rules, ◌<◌, ◌≡◌}
 use Rattle.query_run.proofs.NextKept.{behind-pushed, some-kept}
 use Rattle.query_run.proofs.planning.reserves_of.Goals as goal
 

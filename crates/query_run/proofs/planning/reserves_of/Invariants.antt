@@ -1,4 +1,4 @@
-use Rattle.query_run.proofs.Prelude.{edges_kept, reserved_nodes, reserves_behind, take, ◌+◌, ◌≡◌}
+use Rattle.query_run.proofs.Imports.{edges_kept, reserved_nodes, reserves_behind, take, ◌+◌, ◌≡◌}
 use Rattle.query_run.proofs.planning.reserves_of.Given as goal
 
 abbrev pub invariant-loop-reserve : goal.invariant-loop-reserve

@@ -1,4 +1,4 @@
-use Rattle.query_run.proofs.Prelude.{node_specs, ◌≡◌}
+use Rattle.query_run.proofs.Imports.{node_specs, ◌≡◌}
 use Rattle.query_run.proofs.planning.specs_of.Given as goal
 
 abbrev pub invariant-loop-node : goal.invariant-loop-node

@@ -1,4 +1,4 @@
-use Rattle.query_run.proofs.Prelude.{boxes_needed, map}
+use Rattle.query_run.proofs.Imports.{boxes_needed, map}
 use Rattle.query_run.proofs.Stocks.{HasBefore}
 use Rattle.query_run.proofs.stock.first_shortage.Given as goal
 

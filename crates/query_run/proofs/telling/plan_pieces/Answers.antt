@@ -1,4 +1,4 @@
-use Rattle.query_run.proofs.Prelude.{append_assoc}
+use Rattle.query_run.proofs.Imports.{append_assoc}
 use Rattle.query_run.proofs.telling.plan_pieces.Goals as goal
 
 pub returns-in-Paths : goal.returns-in-Paths

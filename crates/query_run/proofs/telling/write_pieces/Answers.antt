@@ -1,4 +1,4 @@
-use Rattle.query_run.proofs.Prelude.{CountIncreased-earlier}
+use Rattle.query_run.proofs.Imports.{CountIncreased-earlier}
 use Rattle.query_run.proofs.Lines.{writes-cut}
 use Rattle.query_run.proofs.telling.write_pieces.Goals as goal
 

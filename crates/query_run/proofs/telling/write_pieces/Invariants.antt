@@ -1,4 +1,4 @@
-use Rattle.query_run.proofs.Prelude.{GrewBy, flat_map, piece_bytes, take, ◌≤◌}
+use Rattle.query_run.proofs.Imports.{GrewBy, flat_map, piece_bytes, take, ◌≤◌}
 use Rattle.query_run.proofs.telling.write_pieces.Given as goal
 
 abbrev pub invariant-loop-i : goal.invariant-loop-i

@@ -1,4 +1,4 @@
-use Rattle.select_planner.proofs.Cited.{map, take, ◌≡◌, formula}
+use Rattle.select_planner.proofs.Imports.{formula, map, take, ◌≡◌}
 use Rattle.select_planner.proofs.copies.copy_items.Given as goal
 
 abbrev pub invariant-loop-item : goal.invariant-loop-item

@@ -1,5 +1,5 @@
 use Rattle.chunk_data.specs.Values.{type_at}
-use Rattle.select_planner.proofs.Cited.{map, take, ◌≡◌}
+use Rattle.select_planner.proofs.Imports.{map, take, ◌≡◌}
 use Rattle.select_planner.proofs.groups.key_types.Given as goal
 
 abbrev pub invariant-loop-key : goal.invariant-loop-key

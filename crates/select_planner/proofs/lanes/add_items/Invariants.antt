@@ -1,4 +1,4 @@
-use Rattle.select_planner.proofs.Cited.{◌++◌, ◌≡◌, forms, lane_nodes}
+use Rattle.select_planner.proofs.Imports.{forms, lane_nodes, ◌++◌, ◌≡◌}
 use Rattle.query_model.specs.declared.processor_spec.Spec.TheVariants as spec
 use Rattle.select_planner.proofs.lanes.add_items.Given as goal
 

@@ -1,4 +1,5 @@
-use Rattle.select_planner.proofs.Cited.{ap, unboxed, lane-more}
+use Rattle.select_planner.proofs.Imports.{ap, unboxed}
+use Rattle.select_planner.proofs.Laying.{lane-more}
 use Rattle.query_model.specs.declared.processor_spec.Spec.TheVariants as spec
 use Rattle.select_planner.proofs.lanes.add_sorts.Goals as goal
 

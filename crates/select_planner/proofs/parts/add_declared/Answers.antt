@@ -1,4 +1,5 @@
-use Rattle.select_planner.proofs.Cited.{arith, ◌∙◌, parts-count}
+use Rattle.select_planner.proofs.Imports.{arith, ◌∙◌}
+use Rattle.select_planner.proofs.Laying.{parts-count}
 use Rattle.select_planner.proofs.parts.add_declared.Goals as goal
 
 pub returns-in_ok-add_paths-in-Paths-clause-count :

@@ -1,4 +1,5 @@
-use Rattle.select_planner.proofs.Cited.{arith, path-more}
+use Rattle.select_planner.proofs.Imports.{arith}
+use Rattle.select_planner.proofs.Laying.{path-more}
 use Rattle.select_planner.proofs.parts.add_paths.Goals as goal
 
 pub loop-i-preserved : goal.loop-i-preserved

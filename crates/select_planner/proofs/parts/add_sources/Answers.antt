@@ -1,4 +1,5 @@
-use Rattle.select_planner.proofs.Cited.{arith, ◌++◌, ◌∙◌, append-nil, slice_get_past, none-declared}
+use Rattle.select_planner.proofs.Imports.{append-nil, arith, slice_get_past, ◌++◌, ◌∙◌}
+use Rattle.select_planner.proofs.Laying.{none-declared}
 use Rattle.select_planner.proofs.parts.add_sources.Goals as goal
 
 pub returns-in-None-clause-nodes : goal.returns-in-None-clause-nodes

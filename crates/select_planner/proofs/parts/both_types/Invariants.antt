@@ -1,4 +1,4 @@
-use Rattle.select_planner.proofs.Cited.{take, ◌++◌, ◌≡◌}
+use Rattle.select_planner.proofs.Imports.{take, ◌++◌, ◌≡◌}
 use Rattle.select_planner.proofs.parts.both_types.Given as goal
 
 abbrev pub invariant-loop-column : goal.invariant-loop-column

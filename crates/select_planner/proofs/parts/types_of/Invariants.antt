@@ -1,4 +1,4 @@
-use Rattle.select_planner.proofs.Cited.{map, take, ◌≡◌, ColumnDecl}
+use Rattle.select_planner.proofs.Imports.{ColumnDecl, map, take, ◌≡◌}
 use Rattle.select_planner.proofs.parts.types_of.Given as goal
 
 abbrev pub invariant-loop-column : goal.invariant-loop-column

@@ -1,4 +1,4 @@
-use Rattle.select_planner.proofs.Cited.{replicate, ◌≡◌}
+use Rattle.select_planner.proofs.Imports.{replicate, ◌≡◌}
 use Rattle.query_model.specs.declared.processor_spec.Kind.TheVariants as kind
 use Rattle.select_planner.proofs.steps.listed_kinds.Given as goal
 

@@ -1,4 +1,7 @@
-use Rattle.select_planner.proofs.Cited.{arith, plan-graph, select_plan, small-plan, steps-for, nodes-kept, is-sound}
+use Rattle.select_planner.proofs.Imports.{arith, plan-graph, select_plan}
+use Rattle.select_planner.proofs.Laying.{small-plan, steps-for}
+use Rattle.select_planner.proofs.BoxCounts.{nodes-kept}
+use Rattle.select_planner.proofs.Laws.{is-sound}
 use Rattle.select_planner.proofs.steps.plan.Goals as goal
 
 pub plan_of-requires-clause-fit : goal.plan_of-requires-clause-fit

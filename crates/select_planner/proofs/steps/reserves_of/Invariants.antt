@@ -1,4 +1,4 @@
-use Rattle.select_planner.proofs.Cited.{take, ◌≡◌, reserves_from}
+use Rattle.select_planner.proofs.Imports.{reserves_from, take, ◌≡◌}
 use Rattle.select_planner.proofs.steps.reserves_of.Given as goal
 
 abbrev pub invariant-loop-n : goal.invariant-loop-n

@@ -1,4 +1,4 @@
-use Rattle.select_planner.proofs.Cited.{sum_by, take, ◌+◌, ◌≡◌, boxes_taken, boxes_reserved}
+use Rattle.select_planner.proofs.Imports.{boxes_reserved, boxes_taken, sum_by, take, ◌+◌, ◌≡◌}
 use Rattle.select_planner.proofs.stock.needs.Given as goal
 
 abbrev pub invariant-loop-reserve : goal.invariant-loop-reserve

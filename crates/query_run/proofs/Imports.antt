@@ -18,24 +18,26 @@ pub use Rattle.outside_io.specs.Growth.{GrewBy, GrewByPrefix, Untouched}
 pub use Rattle.pipeline_exec.specs.Ends.{HasGrown}
 pub use Rattle.plan_ends.proofs.Columns.{IsTypedSelect, typed-select}
 pub use Rattle.plan_ends.proofs.GrownLists.{at-recursion, form-csv, grown-lists, part-form}
-pub use Rattle.plan_ends.proofs.KnownKinds.{IsRanked, plan-ranked, plan-steps}
+pub use Rattle.plan_ends.proofs.KnownKinds.{IsAboveSources, plan-ranked, plan-steps}
 pub use Rattle.plan_ends.proofs.ListLaws.{few-paths-in}
 pub use Rattle.plan_ends.proofs.Needs.{are_grouped, are_some, are_tested, are_two, clause_need, few_sources, need_by_clauses}
 pub use Rattle.plan_ends.proofs.NodeKinds.{kinds-counted, kinds-same, reserves-same}
 pub use Rattle.plan_ends.proofs.Parts.{IsListOf, IsPartOf, both-valid, in-front, joined-parts, joined-valid, lists-valid, table-parts, table-valid}
 pub use Rattle.plan_ends.proofs.Pulled.{since-pulled}
 pub use Rattle.plan_ends.proofs.Queries.{IsQueryPlan, QueryAnswered, planned-ended, query-plan}
-pub use Rattle.plan_ends.specs.Ended.{HasEnded, HasFullCount, HasPulled, IsStep, IsUngrown, KnownPorts, SourceHas, parts_of, pulled_at, pulled_since, used_part}
+pub use Rattle.plan_ends.specs.Ended.{HasEnded, HasFullCount, HasPulled, IsStep, KnownPorts, SourceHas, pulled_since, sources_of_files, stream_pulled_at, used_part}
+pub use Rattle.proc_api.specs.SpecContracts.{IsUngrown}
 pub use Rattle.plan_ends.specs.Grown.{GrowsLawfully}
 pub use Rattle.plan_graph.specs.Drafts.{no_draft, ports_of, with_nodes}
 pub use Rattle.plan_graph.specs.declared.nodes.DraftNode.{DraftNode}
 pub use Rattle.plan_graph.specs.declared.nodes.NodePort.{NodePort}
-pub use Rattle.plan_meaning.proofs.PlanGraphs.{PlanGraph, plan-graph}
-pub use Rattle.plan_meaning.specs.Names.{HasEnough, IsSmall, NodeForm, SelectPlan, Stream, all_rows, body_nodes, collect_node, forms, join_valid, needed_valid, node_form, plan_nodes, plan_valid, pulled_rows, rows_of, shape_of}
-pub use Rattle.plan_run.proofs.Taking.{kind-at, some-rest, stock-here, stock-step, taken-kinds, taken-length}
+pub use Rattle.plan_meaning.proofs.PlanGraphs.{IsPlanGraph, plan-graph}
+pub use Rattle.plan_meaning.specs.Names.{HasEnoughRows, IsSmall, NodeForm, SelectPlan, Stream, body_nodes, collect_node, forms, join_valid, needed_valid, node_form, plan_nodes, plan_valid, pulled_rows, rows_together, shape_of, stream_rows}
+pub use Rattle.proc_api.proofs.RackLaws.{kind-at}
+pub use Rattle.plan_run.proofs.Taking.{some-rest, stock-here, stock-step, taken-kinds, taken-length}
 pub use Rattle.plan_run.proofs.Telling.{ended-later, runs-give-back, taken-has}
-pub use Rattle.plan_run.specs.Plans.{Begins, FailsWith, FlawedWith, GivesBack, KeepsBehind, LeavesRack, PlanFaultHolds, RanWith, RunsPlan, kinds_in, kinds_of, kinds_taken, taken_at}
-pub use Rattle.plan_run.specs.Stock.{HasStock, first_of, left_after, taken_for, without_first}
+pub use Rattle.plan_run.specs.Plans.{FailsWith, FlawedWith, GivesBack, GraphBegins, KeepsBehind, LeavesRack, PlanFaultHolds, RanWith, RunsPlan, kinds_in, kinds_of, kinds_taken, taken_at}
+pub use Rattle.plan_run.specs.Stock.{HasStock, first_box_of, left_after, taken_for, without_first_box}
 pub use Rattle.plan_run.specs.declared.run.GraphForm.{GraphForm}
 pub use Rattle.plan_run.specs.declared.run.PlanFault.{PlanFault}
 pub use Rattle.port_word.specs.declared.flags.Reserve.{Reserve}
@@ -51,7 +53,7 @@ pub use Rattle.proc_api.specs.declared.growth.Who.TheVariants.{Me, New}
 pub use Rattle.proc_api.specs.declared.status.WorkFault.{WorkFault}
 pub use Rattle.query_model.proofs.Lists.{map-map}
 pub use Rattle.query_model.specs.Database.{IsListDeclared, IsListUsed, IsValidList, paths_in}
-pub use Rattle.query_model.specs.Names.{AllPartsValid, BothOrNone, Files, FromColumn, IsChecked, IsCheckedJoin, IsDue, IsShape, IsTypedQuery, IsValidUsed, UsedPart, answer_text, bad_line_in, database, file_bytes, flow, from_columns, from_types, is_grouped, join_tables, join_use, kind_of, query_boxes, numbered_parts, output_names, part_bad_place, parts_used, refusal_of, rows_text, sort_key, use_of, used_parts, used_tables}
+pub use Rattle.query_model.specs.Names.{AllPartsValid, BothOrNone, Files, FromColumn, IsChecked, IsCheckedJoin, IsDueRefusal, IsShape, IsTypedQuery, IsValidUsed, UsedPart, answer_text, bad_line_in, database, file_bytes, flow, from_columns, from_types, is_grouped, join_tables, join_use, kind_of, query_boxes, numbered_parts, output_names, part_bad_place, parts_used, refusal_of, rows_text, sort_key, use_of, used_parts, used_tables}
 pub use Rattle.query_model.specs.declared.checked.Checked.{Checked}
 pub use Rattle.query_model.specs.declared.checked.CheckedJoin.{CheckedJoin}
 pub use Rattle.query_model.specs.declared.checked.Shape.{Shape}
@@ -69,15 +71,15 @@ pub use Rattle.query_model.specs.declared.query.Schema.{Schema}
 pub use Rattle.query_model.specs.declared.query.TableDecl.{TableDecl}
 pub use Rattle.query_run.specs.Endings.{Writes, piece_bytes}
 pub use Rattle.query_run.specs.Names.{AreLawfulOver, AreRefused, Ending, Ends, EndsEarly, EndsFor, EndsUnlawful, FailsAtPart, FailsFor, Failure, GivesText, HasBoxes, IsAccepted, IsAnswerable, IsCertain, IsCheckedCommand, IsEither, IsFileNamed, IsHonest, IsListNamed, IsPartNamed, IsPlain, IsPlanFault, IsPlanned, IsRefusedFor, IsRefusedQuery, IsRun, IsRunnable, IsShort, KINDS, LackBoxes, LacksBoxes, LeavesBoxes, LeavesPlan, MakesText, MeanNothing, NameManyPaths, NamesFewPaths, OfChecked, OfCommand, OfQuery, PartFailsFor, PartFailure, PartName, PartPlace, PlanFailsFor, PlanFailure, PulledMore, PulledRows, PullsItsFlow, RanPlan, ReaderFails, ReadsNamed, Refused, ServesNamed, Shortage, SucceedsUnless, TakesBoxes, Tells, WritesAnswer, boxes_for, edges_kept, failure_of, failure_status, kept_places, kinds_for, kinds_reserved, name_at, name_of, node_specs, part_place, places_in, plan_kinds, plan_of, plan_status, query_status, refused_status, reserves_behind, schemas_of, spec_read, specs_in, status_of, stock_of, tables_used, text_status}
-pub use Rattle.query_run.specs.Racks.{pulled_by}
+pub use Rattle.query_run.specs.Racks.{pulled_by_boxes}
 pub use Rattle.query_run.specs.declared.ending.Ending.TheVariants.{Answered, Failed, WriteFailed}
-pub use Rattle.query_run.specs.declared.telling.Piece.{Piece}
+pub use Rattle.query_run.specs.declared.telling.LinePiece.{LinePiece}
 pub use Rattle.select_planner.proofs.BoxCounts.{boxes-counted, plan-needs}
 pub use Rattle.select_planner.proofs.Laying.{is-small}
 pub use Rattle.select_planner.specs.Boxes.{reserved_nodes}
 pub use Rattle.select_planner.specs.Counts.{boxes_needed, boxes_reserved}
 pub use Rattle.select_planner.specs.Refusals.{first_crowded}
-pub use Rattle.select_planner.specs.Shapes.{edge_of, kept_at, node_of, plan_ranks, plan_wires, reserves_from, wire_of}
+pub use Rattle.select_planner.specs.Shapes.{kept_at, plan_edge_of, plan_node_of, plan_ranks, plan_wire_of, plan_wires, reserves_from}
 pub use Rattle.select_planner.specs.Steps.{order_of, source_types}
 pub use Rattle.select_planner.specs.declared.nodes.Plan.{Plan}
 pub use Rattle.select_planner.specs.declared.nodes.PlanNode.{PlanNode}
