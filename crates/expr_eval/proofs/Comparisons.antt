@@ -5,9 +5,9 @@ compared-reverse : (a b : Value) → compared b a ≡ ordering_reverse (compared
 compared-reverse a b = grind (arith, nat_list_cmp_total.antisymm, int_cmp_total.antisymm)
 
 -- a comparison turned round
-pub turned : (op : CompareOp) (a b : Value)
+pub flipped_passes : (op : CompareOp) (a b : Value)
     → passes (flipped op) (compared b a) ≡ passes op (compared a b)
-turned op a b = search (arith, compared-reverse)
+flipped_passes op a b = search (arith, compared-reverse)
 
 pub int_compared : (x z : ℤ) → compared (Int x) (plain_value z) ≡ int_cmp x z
 int_compared x z = grind arith

@@ -2,7 +2,7 @@
 pub use Rattle.chunk_data.proofs.Imports.{Equal, Greater, Less, Ordering, get_or_default, column_type, values}
 pub use Rattle.chunk_data.proofs.Laws.{AreLong_of_made, rows_of_made}
 pub use Rattle.chunk_data.specs.declared.typed_column.Column.{Column}
-pub use Rattle.expr_eval.specs.Results.{IsMade, flipped, residue, swap_if}
+pub use Rattle.expr_eval.specs.Results.{IsColumnMade, flipped, residue, swap_if}
 pub use Rattle.query_model.proofs.Imports.{ColumnType, Int, IsItem, Row, Table, Text, UInt, Value, int_cmp_total, map-append, ordering_reverse, take_all, to_z-of_z, value_at}
 pub use Rattle.query_model.proofs.TypedQueries.{type_before, type_behind, type_of_number}
 pub use Rattle.query_model.specs.Names.{AreAlike, AreNumbersAlike, CanHold, Expr, arith_type, arith_value, compared, exact, exact_result, is_text, number_of, number_type, passes, plain_of, plain_value, result_type}

@@ -1,5 +1,5 @@
 -- The operands of typed arithmetic.
-use Rattle.expr_eval.proofs.Imports.{arith, AreAlike, Bool, CanHold, Column, ColumnType, Expr, IsMade, None, Option, Row, Some, Table, if◌then◌else◌, is_text, map, plain_of, plain_value, true, value_of, values, ℤ, ◌≡◌}
+use Rattle.expr_eval.proofs.Imports.{arith, AreAlike, Bool, CanHold, Column, ColumnType, Expr, IsColumnMade, None, Option, Row, Some, Table, if◌then◌else◌, is_text, map, plain_of, plain_value, true, value_of, values, ℤ, ◌≡◌}
 use Rattle.chunk_data.specs.declared.typed_value.ColumnType.TheVariants as column
 
 pub plain_before : (p q : Option ℤ) (s t : ColumnType) (z : ℤ) → p ≡ Some z → AreAlike p s q t
@@ -15,7 +15,7 @@ pub plain_value_of : (e : Expr) (z : ℤ) (row : Row) → plain_of e ≡ Some z
 unfolding value_of
 plain_value_of e z row h = grind arith
 
-pub made_values : (e : Expr) (table : Table) (c : Column) → IsMade e table (Some c)
+pub made_values : (e : Expr) (table : Table) (c : Column) → IsColumnMade e table (Some c)
     → values c ≡ map (value_of e) table.rows
 made_values e table c h = grind arith
 

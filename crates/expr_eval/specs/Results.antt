@@ -19,11 +19,12 @@ swap_if true f x y = f y x
 
 -- The column that was made of an expression at each row. None is made of a column reference, which
 -- is read in place, and none of a plain number.
-abbrev pub IsMade : Expr → Table → Option Column → Type 0
-IsMade (expr.Column c) table made = made ≡ None
-IsMade (expr.Number n) table made = made ≡ None
-IsMade (expr.Arith' op p a q b) table None = ⊥
-IsMade (expr.Arith' op p a q b) table (Some c) = (column_type c ≡ type_of (expr.Arith' op p a q b)
+abbrev pub IsColumnMade : Expr → Table → Option Column → Type 0
+IsColumnMade (expr.Column c) table made = made ≡ None
+IsColumnMade (expr.Number n) table made = made ≡ None
+IsColumnMade (expr.Arith' op p a q b) table None = ⊥
+IsColumnMade (expr.Arith' op p a q b) table (Some c) =
+    (column_type c ≡ type_of (expr.Arith' op p a q b)
     table.types) × (values c ≡ map (value_of (expr.Arith' op p a q b)) table.rows)
 
 -- the comparison that is true of two operands in the other order

@@ -1,6 +1,6 @@
 -- Numbers in order, as rows.
-use Rattle.std.specs.Prelude.{◌++◌, ◌-◌, ◌∷◌, ◌≡◌}
-use Rattle.flow_procs.specs.Prelude.{IsInOrder, IsShelled, List, OwnState, Row, Spec, UInt, [], idle_own, map, numbers, refl, shelled-of, suc, zero, ℕ}
+use Rattle.std.specs.Prelude.{◌-◌, ◌∷◌}
+use Rattle.flow_procs.specs.Prelude.{IsShelled, List, OwnState, Row, Spec, UInt, [], idle_own, map, refl, shelled-of, suc, zero, ℕ}
 
 -- so many numbers from the first on
 abbrev pub count_on : (first count : ℕ) → List ℕ
@@ -14,15 +14,6 @@ number_row n = UInt n ∷ []
 abbrev pub counting_own : (next end : ℕ) → OwnState
 counting_own next end = record idle_own { unmade = map number_row (count_on next (end - next)) }
 
-pub numbers_order : (end rows : ℕ) → IsInOrder (Spec.Numbers end rows)
-numbers_order end rows = record {
-  means = λ x own worked made. made ++ own.unmade ≡ (numbers end).rows;
-  into = λ x own worked outs wait h. h;
-  from = λ x own worked outs wait h. h;
-}
-
 pub numbers_shelled : (end rows : ℕ) → IsShelled (Spec.Numbers end rows)
 numbers_shelled end rows =
-    shelled-of (Spec.Numbers end rows) 0 refl
-    (record { ports = λ growth m n h. h })
-    (numbers_order end rows) (λ p ins outs uses h. h) (λ p ins outs seen uses h. h)
+    shelled-of (Spec.Numbers end rows) 0 refl refl (record { ports = λ growth m n h. h })

@@ -6,4 +6,3 @@ pub resize_shelled : IsShelled Spec.Resize
 resize_shelled =
     shelled-plain Spec.Resize refl (λ growth kept m n had h position. position)
     (λ ins enough growth m n h. absurd enough) resize-pushes
-    (λ p ins outs uses h. h) (λ p ins outs seen uses h. h)

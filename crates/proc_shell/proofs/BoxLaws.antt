@@ -1,5 +1,5 @@
 -- The clauses of the calls of a shell, from what its kernel and its notes do.
-use Rattle.proc_shell.proofs.Imports.{All, All-behind, All-cons, All-nil, AllFit, AllOutputsFinished, AnswerComes, Bool, BoxPicture, Continues, Err, Fails, FaultHolds, FaultInCall, FaultIsDue, Faults, FitsInput, FollowsKept, HasNotedEnd, HasSize, HasSpecPorts, Held, IfErr, IfSome, IsAtMost, IsBadFile, IsBegun, IsKernelOf, IsLoadRefused, IsPulled, IsRunning, IsShelled, IsSourceKind, IsValid, IsWorkOf, Keeps, KeepsLimits, KeepsMeant, KernelState, Kind, List, Lists, Loads, Made, Makes, MakesTypes, MayExpand, Means, Moves, None, Notes, NotesNoEnd, Nothing, Ok, OnOk, Option, OwnState, PartFails, PartPrepares, PartWorks, Passes, Picture, Prepared, PreparesLawfully, Progresses, ReaderView, Result, RowCount, ShellPart, ShutsPart, Some, Spec, Status, StatusComes, Table, Takes, Unworked, WorkFault, Works, WorksHeld, [], ap, append-nil, ap₂, arith, both-same, changed-by-both, chunk_rows, common_steps, false, file_in, file_of, files_by, gathered_with, growth_in, held_made, held_option, held_unworked, in_count, inl, inr, is_some, is_wanted, kept_input, kept_inputs, kept_output, kept_outputs, kind_of, length, most_rows, no_lists, no_table, none-pulled, noted_by, option_map, out_count, own_of, part, part_seen, pulled_at, reading_of, refl, rows_of, rows_pulled, shell_seen, source_of, subst, sym, total-nothing, total_rows, true, unworked_at, with_chunk, with_view, work_of, ℕ, ◌++◌, ◌+◌, ◌<◌, ◌==◌, ◌||◌, ◌∙◌, ◌∷◌, ◌≡◌, ◌≢◌, ◌≤◌, ◌⊎◌}
+use Rattle.proc_shell.proofs.Imports.{All, All-behind, All-cons, All-nil, AllFit, AllOutputsFinished, AnswerComes, Bool, BoxPicture, Continues, Err, Fails, FaultHolds, FaultInCall, FaultIsDue, Faults, FitsInput, FollowsKept, HasNotedEnd, HasSize, HasSpecPorts, Held, IfErr, IfSome, IsAtMost, IsBadFile, IsBegun, IsKernelOf, IsLoadRefused, IsPulled, IsRunning, IsShelled, IsSourceKind, IsValid, IsWorkOf, Keeps, KeepsLimits, KeepsMeant, KernelState, Kind, List, Lists, LoadedShell, Loads, Made, Makes, MakesTypes, MayExpand, Means, Moves, None, Notes, NotesNoEnd, Nothing, Ok, OnOk, Option, OwnState, Passes, Picture, Prepared, PreparesLawfully, Progresses, ReaderView, Result, RowCount, ShellFails, ShellPrepares, ShellWorks, ShutsShell, Some, Spec, Status, StatusComes, Table, Takes, Unworked, WorkFault, Works, WorksHeld, [], ap, append-nil, ap₂, arith, both-same, changed-by-both, chunk_rows, common_steps, false, file_in, file_of, files_by, gathered_with, growth_in, held_made, held_option, held_unworked, in_count, inl, inr, is_some, is_wanted, kept_input, kept_inputs, kept_output, kept_outputs, kind_of, length, loaded_seen, most_rows, no_lists, no_table, none-pulled, noted_by, option_map, out_count, own_of, pulled_at, reading_of, refl, rows_if_some, rows_pulled, shell_seen, shell_state, source_of, subst, sym, total-nothing, total_rows, true, unworked_at, with_chunk, with_view, work_of, ℕ, ◌++◌, ◌+◌, ◌<◌, ◌==◌, ◌||◌, ◌∙◌, ◌∷◌, ◌≡◌, ◌≢◌, ◌≤◌, ◌⊎◌}
 use Rattle.query_model.specs.declared.processor_spec.Kind.TheVariants as kind
 use Rattle.proc_api.specs.declared.status.Status.TheVariants as status
 use Rattle.proc_api.specs.declared.status.WorkFault.TheVariants as fault
@@ -15,7 +15,7 @@ pub by-rows : (P : Held → Type 0) (t : Table) → (t.rows ≡ [] → P Nothing
     → (0 < length t.rows → P (Made t)) → P (held_option (Some t))
 by-rows P t none some = grind (arith, common_steps)
 
-held-rows : (o : Option Table) → chunk_rows (held_made (held_option o)) ≡ rows_of o
+held-rows : (o : Option Table) → chunk_rows (held_made (held_option o)) ≡ rows_if_some o
 held-rows o = grind (arith, common_steps, by-rows, append-nil)
 
 pub held-worked : (o : Option Table) → held_unworked (held_option o) ≡ []
@@ -55,7 +55,7 @@ pub none-mapped : {A : Type 0} {B : Type 0} (f : A → B) (o : Option A) → is_
 none-mapped f o e = grind (arith, common_steps)
 
 -- a blank box that was given another kind's spec, or a spec of its kind
-pub wrong-kind : (k : Kind) (d : Option ReaderView) (count : RowCount) (o : Option ShellPart)
+pub wrong-kind : (k : Kind) (d : Option ReaderView) (count : RowCount) (o : Option LoadedShell)
     (s : Spec) → is_some o ≡ false → kind_of s ≢ k
     → IsLoadRefused refusal.WrongKind (shell_seen k d count o) s
 wrong-kind k d count (Some p) s none h = absurd (cc)
@@ -64,10 +64,10 @@ wrong-kind k d count None s none h = (refl, h)
 noted-none : (d : Option ReaderView) → noted_by d 0 ≡ 0
 noted-none d = grind (arith, common_steps)
 
-module _ (k : Kind) (d : Option ReaderView) (count : RowCount) (s : Spec) (p : ShellPart)
+module _ (k : Kind) (d : Option ReaderView) (count : RowCount) (s : Spec) (p : LoadedShell)
     (x : IsBegun s p) (since : count.since ≡ 0) where
   abbrev F : BoxPicture
-  F = part_seen k d count p
+  F = loaded_seen k d count p
 
   fresh-meant : KeepsMeant p.kernel.spec F no_lists no_lists
   unfolding kept_output
@@ -114,11 +114,11 @@ module _ (k : Kind) (d : Option ReaderView) (count : RowCount) (s : Spec) (p : S
   }
 
 -- a blank shell that was loaded
-pub loads : (k : Kind) (d : Option ReaderView) (count more : RowCount) (o : Option ShellPart)
-    (s : Spec) (p : ShellPart) → is_some o ≡ false → kind_of s ≡ k → IsBegun s p → more ≡ record {
+pub loads : (k : Kind) (d : Option ReaderView) (count more : RowCount) (o : Option LoadedShell)
+    (s : Spec) (p : LoadedShell) → is_some o ≡ false → kind_of s ≡ k → IsBegun s p → more ≡ record {
       total = count.total;
       since = 0;
-    } → Loads (shell_seen k d count o) s (part_seen k d more p)
+    } → Loads (shell_seen k d count o) s (loaded_seen k d more p)
 loads k d count more (Some y) s p none sk x m = absurd (cc)
 loads k d count more None s p none sk x m =
     let since : more.since ≡ 0 = ap (λ c. c.since) m in
@@ -159,24 +159,24 @@ rows-turned x h j v w st few y = elim y.pulls [
 ]
 
 -- a prepare leaves what is counted of its reader
-pub limits-stay : (k : Kind) (d : Option ReaderView) (p q : ShellPart) (n m : RowCount)
+pub limits-stay : (k : Kind) (d : Option ReaderView) (p q : LoadedShell) (n m : RowCount)
     (w : Picture) (st : Status) (fits : Bool) → IsKernelOf p.kernel q.kernel
     → q.notes ≡ with_view w st (record p.notes { fits = fits }) → p.notes.fault ≡ None
-    → KeepsLimits (part_seen k d n p) (part_seen k d m q)
+    → KeepsLimits (loaded_seen k d n p) (loaded_seen k d m q)
 limits-stay k d p q n m w st fits kernel notes faultless = grind (arith, common_steps)
 
 -- a prepare after which the kernel has the state b
-module _ (k : Kind) (d : Option ReaderView) (p : ShellPart) (b : OwnState) (j : Held)
+module _ (k : Kind) (d : Option ReaderView) (p : LoadedShell) (b : OwnState) (j : Held)
     (notes : Notes) (n m : RowCount) (v w : Picture) (st : Status)
     (so : Continues k p.kernel (record p.kernel { own = b }) j) where
   abbrev after : BoxPicture
-  after = part_seen k d m (part (record p.kernel { own = b }) j notes)
+  after = loaded_seen k d m (shell_state (record p.kernel { own = b }) j notes)
 
   abbrev before : BoxPicture
-  before = part_seen k d n p
+  before = loaded_seen k d n p
 
   abbrev PassesHere : Type 0
-  PassesHere = Passes p v n (part (record p.kernel { own = b }) j notes) w m st
+  PassesHere = Passes p v n (shell_state (record p.kernel { own = b }) j notes) w m st
 
   may-come : (u : Status) → AnswerComes u (record p.kernel { own = b }) j w → StatusComes u after
   may-come status.NeedData e = e
@@ -199,7 +199,7 @@ module _ (k : Kind) (d : Option ReaderView) (p : ShellPart) (b : OwnState) (j : 
         law = y.law;
         comes = may-come st y.comes;
         pulled = pulled-so p.held x.held v x.view w n m x.pushes x.counts;
-        limits = limits-stay k d p (part (record p.kernel { own = b }) j notes) n m w st
+        limits = limits-stay k d p (shell_state (record p.kernel { own = b }) j notes) n m w st
             p.notes.fits refl x.notes run.faultless;
         fits = λ fit. ap (λ z. z.fits) x.notes ∙ fit.fits;
         keeps = keeps-over k d p.kernel b p.held j p.notes notes n m v w st so x few ports run f;
@@ -219,15 +219,15 @@ module _ (k : Kind) (d : Option ReaderView) (p : ShellPart) (b : OwnState) (j : 
       }
 
   prepares-misfit : (HasSpecPorts p.kernel v → ⊥)
-      → ShutsPart p v n (part (record p.kernel { own = b }) j notes) w m st → IsRunning before
-      → PreparesLawfully before v after w st
+      → ShutsShell p v n (shell_state (record p.kernel { own = b }) j notes) w m st
+      → IsRunning before → PreparesLawfully before v after w st
   prepares-misfit never x run =
       grind (arith, common_steps, total-nothing, none-pulled, shut-law, limits-stay, never-true)
 
 -- a prepare that takes one turn
-pub passes-once : (k : Kind) (p q : ShellPart) (n m : RowCount) (v w : Picture) (st : Status)
+pub passes-once : (k : Kind) (p q : LoadedShell) (n m : RowCount) (v w : Picture) (st : Status)
     → Continues k p.kernel q.kernel q.held → out_count v ≤ 16 → HasSpecPorts p.kernel v
-    → Passes p v n q w m st → PartPrepares k p v n q w m st
+    → Passes p v n q w m st → ShellPrepares k p v n q w m st
 passes-once k p q n m v w st so few ports x = record {
   continues = so;
   changed = changed-by-both v x.view w x.pushes.changed x.turns.moves.changed;
@@ -236,15 +236,15 @@ passes-once k p q n m v w st so few ports x = record {
   fits = p.notes.fits;
   notes = x.notes;
   lawful = λ d run f.
-      subst (λ z. Continues k p.kernel z q.held → Passes p v n (part z q.held q.notes) w m st
-      → PreparesLawfully (part_seen k d n p) v (part_seen k d m (part z q.held q.notes)) w st)
-      (sym so.kernel) (λ so x. prepares-fit _ _ _ _ _ _ _ _ _ _ _ so few ports x f run) so x;
+      subst (λ z. Continues k p.kernel z q.held → Passes p v n (shell_state z q.held q.notes) w m st
+      → PreparesLawfully (loaded_seen k d n p) v (loaded_seen k d m (shell_state z q.held q.notes))
+      w st) (sym so.kernel) (λ so x. prepares-fit _ _ _ _ _ _ _ _ _ _ _ so few ports x f run) so x;
 }
 
 -- a prepare over a view with other ports
-pub shuts-once : (k : Kind) (p q : ShellPart) (n m : RowCount) (v w : Picture) (st : Status)
+pub shuts-once : (k : Kind) (p q : LoadedShell) (n m : RowCount) (v w : Picture) (st : Status)
     → Continues k p.kernel q.kernel q.held → (HasSpecPorts p.kernel v → ⊥)
-    → ShutsPart p v n q w m st → PartPrepares k p v n q w m st
+    → ShutsShell p v n q w m st → ShellPrepares k p v n q w m st
 shuts-once k p q n m v w st so never x = record {
   continues = so;
   changed = x.changed;
@@ -253,9 +253,10 @@ shuts-once k p q n m v w st so never x = record {
   fits = false;
   notes = x.notes;
   lawful = λ d run f.
-      subst (λ z. Continues k p.kernel z q.held → ShutsPart p v n (part z q.held q.notes) w m st
-      → PreparesLawfully (part_seen k d n p) v (part_seen k d m (part z q.held q.notes)) w st)
-      (sym so.kernel) (λ so x. prepares-misfit _ _ _ _ _ _ _ _ _ _ _ so never x run) so x;
+      subst (λ z. Continues k p.kernel z q.held
+      → ShutsShell p v n (shell_state z q.held q.notes) w m st
+      → PreparesLawfully (loaded_seen k d n p) v (loaded_seen k d m (shell_state z q.held q.notes))
+      w st) (sym so.kernel) (λ so x. prepares-misfit _ _ _ _ _ _ _ _ _ _ _ so never x run) so x;
 }
 
 -- ---- work
@@ -268,11 +269,11 @@ module _ (k : Kind) (d : Option ReaderView) (count : RowCount) (x : KernelState)
   s = x.spec
 
   abbrev P : Held → BoxPicture
-  P h = part_seen k d count (part x h n)
+  P h = loaded_seen k d count (shell_state x h n)
 
   abbrev Q : BoxPicture
-  Q = part_seen k d count
-      (part (record x { own = b }) (held_option o) (record n { acted = true }))
+  Q = loaded_seen k d count
+      (shell_state (record x { own = b }) (held_option o) (record n { acted = true }))
 
   none-left : (i : ℕ) → unworked_at Q.work i ≡ []
   none-left i =
@@ -284,7 +285,7 @@ module _ (k : Kind) (d : Option ReaderView) (count : RowCount) (x : KernelState)
       subst (λ z. Means (reading_of (P h)) s z t.worked outs (chunk_rows (held_made h)))
       (shown-one s t.own x.own (held_unworked h) (sym t.shows)) t.rows
 
-  meant-after : (worked outs : Lists) → Means (reading_of Q) s b worked outs (rows_of o)
+  meant-after : (worked outs : Lists) → Means (reading_of Q) s b worked outs (rows_if_some o)
       → Means (reading_of Q) s b worked outs (chunk_rows (held_made (held_option o)))
   meant-after worked outs h = subst (Means (reading_of Q) s b worked outs) (sym (held-rows o)) h
 
@@ -334,7 +335,8 @@ module _ (k : Kind) (d : Option ReaderView) (count : RowCount) (x : KernelState)
         read = t.read;
       }
 
-  makes-on : (0 < length (rows_of o)) ⊎ (b.unmade ≡ []) → IsValid x o → Progresses (P Nothing) Q
+  makes-on : (0 < length (rows_if_some o)) ⊎ (b.unmade ≡ []) → IsValid x o
+      → Progresses (P Nothing) Q
   makes-on y valid = grind (arith, common_steps, held-rows, held-worked)
 
   works-held : (h : Held) → ((ins outs : Lists) → AllFit (Some s) ins
@@ -400,22 +402,23 @@ module _ (k : Kind) (d : Option ReaderView) (count : RowCount) (x : KernelState)
       (inl (omega (arith, ap length (held-worked o))))
 
 -- a work of a loaded shell
-pub works-part : (k : Kind) (d : Option ReaderView) (count : RowCount) (p q : ShellPart)
-    → PartWorks k p q → IsRunning (part_seen k d count p)
-    → Works (part_seen k d count p) (part_seen k d count q)
+pub works-part : (k : Kind) (d : Option ReaderView) (count : RowCount) (p q : LoadedShell)
+    → ShellWorks k p q → IsRunning (loaded_seen k d count p)
+    → Works (loaded_seen k d count p) (loaded_seen k d count q)
 works-part k d count p q w = go p.held w.works
   where
-    X : (h : Held) (j : ShellPart) → Type 0
-    X h j = IsRunning (part_seen k d count (part p.kernel h p.notes))
-        → Works (part_seen k d count (part p.kernel h p.notes)) (part_seen k d count j)
+    X : (h : Held) (j : LoadedShell) → Type 0
+    X h j = IsRunning (loaded_seen k d count (shell_state p.kernel h p.notes))
+        → Works (loaded_seen k d count (shell_state p.kernel h p.notes)) (loaded_seen k d count j)
 
     to : (h : Held) (o : Option Table) → q.held ≡ held_option o
         → (Continues k p.kernel (record p.kernel { own = q.kernel.own }) (held_option o)
-        → X h (part (record p.kernel { own = q.kernel.own }) (held_option o)
+        → X h (shell_state (record p.kernel { own = q.kernel.own }) (held_option o)
         (record p.notes { acted = true }))) → X h q
     to h o e f =
-        let at : q ≡ part (record p.kernel { own = q.kernel.own }) (held_option o)
-        (record p.notes { acted = true }) = λ i. part (w.continues.kernel i) (e i) (w.notes i) in
+        let at : q ≡ shell_state (record p.kernel { own = q.kernel.own }) (held_option o)
+        (record p.notes { acted = true }) =
+        λ i. shell_state (w.continues.kernel i) (e i) (w.notes i) in
         subst (X h) (sym at) (f (subst (λ z. Continues k p.kernel z.kernel z.held) at w.continues))
 
     go : (h : Held) → WorksHeld p.kernel h q.kernel.own q.held → X h q
@@ -425,19 +428,20 @@ works-part k d count p q w = go p.held w.works
         takes-works k d count p.kernel p.notes q.kernel.own y.out so i c y.takes)
     go (Made c) y = absurd y
 
-pub works : (k : Kind) (d : Option ReaderView) (count : RowCount) (p q : ShellPart)
-    (r : Result (Unit {0}) WorkFault) → IsRunning (part_seen k d count p) → OnOk r (PartWorks k p q)
-    → OnOk r (Works (part_seen k d count p) (part_seen k d count q))
+pub works : (k : Kind) (d : Option ReaderView) (count : RowCount) (p q : LoadedShell)
+    (r : Result (Unit {0}) WorkFault) → IsRunning (loaded_seen k d count p)
+    → OnOk r (ShellWorks k p q) → OnOk r (Works (loaded_seen k d count p) (loaded_seen k d count q))
 works k d count p q (Err f) run w = tt
 works k d count p q (Ok u) run w = works-part k d count p q w run
 
 -- ---- faults
 
-module _ (k : Kind) (d : Option ReaderView) (count : RowCount) (p q : ShellPart) (f : WorkFault)
-    (x : PartFails f p q) where
+module _ (k : Kind) (d : Option ReaderView) (count : RowCount) (p q : LoadedShell) (f : WorkFault)
+    (x : ShellFails f p q) where
   -- a fault of a work, which is kept
-  fails-part : p.kernel.kind ≡ k → Fails p.kernel f → FaultIsDue (Some f) (part_seen k d count p)
-      → p.kernel.stage.handed_out ≡ false → Faults f (part_seen k d count p) (part_seen k d count q)
+  fails-part : p.kernel.kind ≡ k → Fails p.kernel f → FaultIsDue (Some f) (loaded_seen k d count p)
+      → p.kernel.stage.handed_out ≡ false
+      → Faults f (loaded_seen k d count p) (loaded_seen k d count q)
   fails-part of why due out =
       record {
         same = record {
@@ -454,25 +458,26 @@ module _ (k : Kind) (d : Option ReaderView) (count : RowCount) (p q : ShellPart)
         is_due = λ lawful. (told f why due).2;
       }
     where
-      still : (g : WorkFault) → FaultIsDue (Some g) (part_seen k d count p)
-          → FaultIsDue (Some g) (record (part_seen k d count p) { spec = Some q.kernel.spec })
-      still g = subst (λ s. FaultIsDue (Some g) (record (part_seen k d count p) { spec = Some s }))
+      still : (g : WorkFault) → FaultIsDue (Some g) (loaded_seen k d count p)
+          → FaultIsDue (Some g) (record (loaded_seen k d count p) { spec = Some q.kernel.spec })
+      still g = subst (λ s. FaultIsDue (Some g)
+          (record (loaded_seen k d count p) { spec = Some s }))
           (sym (ap (λ z. z.spec) x.kernel))
 
-      told : (g : WorkFault) → Fails p.kernel g → FaultIsDue (Some g) (part_seen k d count p)
-          → FaultInCall g (part_seen k d count p) (part_seen k d count q)
-          × FaultHolds (Some g) (part_seen k d count q)
-          × FaultIsDue (Some g) (part_seen k d count q)
+      told : (g : WorkFault) → Fails p.kernel g → FaultIsDue (Some g) (loaded_seen k d count p)
+          → FaultInCall g (loaded_seen k d count p) (loaded_seen k d count q)
+          × FaultHolds (Some g) (loaded_seen k d count q)
+          × FaultIsDue (Some g) (loaded_seen k d count q)
       told fault.Memory y z = (tt, tt, tt)
       told (fault.Bad place) y z = (tt, sym of ∙ y.0, still (fault.Bad place) z)
       told (fault.BadList line) y z = (tt, sym of ∙ y.0, still (fault.BadList line) z)
       told g y z = absurd y
 
-pub fails : (k : Kind) (d : Option ReaderView) (count : RowCount) (p q : ShellPart)
-    (r : Result (Unit {0}) WorkFault) → p.kernel.kind ≡ k → IsRunning (part_seen k d count p)
-    → IfErr r (λ f. PartFails f p q) → IfErr r (Fails p.kernel)
-    → ((f : WorkFault) → Fails p.kernel f → FaultIsDue (Some f) (part_seen k d count p))
-    → IfErr r (λ f. Faults f (part_seen k d count p) (part_seen k d count q))
+pub fails : (k : Kind) (d : Option ReaderView) (count : RowCount) (p q : LoadedShell)
+    (r : Result (Unit {0}) WorkFault) → p.kernel.kind ≡ k → IsRunning (loaded_seen k d count p)
+    → IfErr r (λ f. ShellFails f p q) → IfErr r (Fails p.kernel)
+    → ((f : WorkFault) → Fails p.kernel f → FaultIsDue (Some f) (loaded_seen k d count p))
+    → IfErr r (λ f. Faults f (loaded_seen k d count p) (loaded_seen k d count q))
 fails k d count p q (Ok u) of run w why due = tt
 fails k d count p q (Err f) of run w why due =
     fails-part k d count p q f w of why (due f why) run.not_handed_out

@@ -1,5 +1,5 @@
 -- A shell keeps the contract of its kernel's kind over a prepare.
-use Rattle.proc_shell.proofs.Imports.{All, All-append, All-behind, All-weaker, AllFit, AllOutputsClosed, AnswerComes, AreOpen, ArePortsOf, Bool, BoxPicture, Continues, CountsRows, EndsNow, Flags, FollowsKept, GrowthForm, HadPorts, HasEnough, HasNotedEnd, HasReadEnough, HasSize, HasSpecPorts, HasSpecView, Held, IfSome, InputFollows, IsOver, IsPulled, IsReadUp, IsRunning, IsShelled, Keeps, KeepsMeant, KeepsOver, KernelState, Kind, List, Lists, MakesTypes, MayBeInput, Means, Moves, None, Notes, NotesEnd, Nothing, Option, OwnState, Passes, Picture, PortFlags, Prepared, PullsOne, Pushes, ReaderView, RowCount, Some, Spec, StandStill, Status, StaysFit, Table, [], ap, append-nil, append_assoc, append_cancel_right, ap₂, arith, both_ways, by-place, cases_eq, cases_lt, chunk_rows, common_steps, cond, cond_both, counted-more, enough-more, eq-eqb, false, false_from_ne_true, fits-front, front-all, gathered_with, get_or, growth_in, held_made, held_unworked, in_count, inl, input_at, inr, is_ended, is_in_finished, is_out_finished, kept_input, kept_input-of, kept_input-past, kept_inputs, kept_inputs-of, kept_output, kept_output-of, kept_output-past, kept_outputs, kept_outputs-of, kept_ports, length, length-map, makes-more, may-be-input, ne_eqb, never-enough, no_flags, not-true, or_cases, out_count, output_at, own_of, part, part_seen, port_flags, pulled-last, pulled-more, pulled_at, pushed_at, raised, reading_of, refl, rows_pulled, source_of, subst, sym, taken_out, total_rows, true, unworked_at, with_pulled, with_pushed, ℕ, ◌++◌, ◌<◌, ◌==◌, ◌||◌, ◌∙◌, ◌∷◌, ◌≡◌, ◌≢◌, ◌≤◌, ◌⊎◌}
+use Rattle.proc_shell.proofs.Imports.{All, All-append, All-behind, All-weaker, AllFit, AllOutputsClosed, AnswerComes, AreOpen, ArePortsOf, Bool, BoxPicture, Continues, CountsRows, EndsNow, Flags, FollowsKept, GrowthForm, HadPorts, HasEnough, HasNotedEnd, HasReadEnough, HasSize, HasSpecPorts, HasSpecView, Held, IfSome, InputFollows, IsOver, IsPulled, IsReadUp, IsRunning, IsShelled, Keeps, KeepsMeant, KeepsOver, KernelState, Kind, List, Lists, MakesTypes, MayBeInput, Means, Moves, None, Notes, NotesEnd, Nothing, Option, OwnState, Passes, Picture, PortFlags, Prepared, PullsOne, Pushes, ReaderView, RowCount, Some, Spec, StandStill, Status, StaysFit, Table, [], all_port_flags, ap, append-nil, append_assoc, append_cancel_right, ap₂, arith, both_ways, by-place, cases_eq, cases_lt, chunk_rows, common_steps, cond, cond_both, counted-more, enough-more, eq-eqb, false, false_from_ne_true, fits-front, front-all, gathered_with, get_or, growth_in, held_made, held_unworked, in_count, inl, input_at, inr, is_ended, is_in_finished, is_out_finished, kept_input, kept_input-of, kept_input-past, kept_inputs, kept_inputs-of, kept_output, kept_output-of, kept_output-past, kept_outputs, kept_outputs-of, kept_ports, length, length-map, loaded_seen, makes-more, may-be-input, ne_eqb, never-enough, no_flags, not-true, or_cases, out_count, output_at, own_of, pulled-last, pulled-more, pulled_at, pushed_at, raised, reading_of, refl, rows_pulled, shell_state, source_of, subst, sym, taken_out, total_rows, true, unworked_at, with_pulled, with_pushed, ℕ, ◌++◌, ◌<◌, ◌==◌, ◌||◌, ◌∙◌, ◌∷◌, ◌≡◌, ◌≢◌, ◌≤◌, ◌⊎◌}
 use Rattle.query_model.specs.declared.processor_spec.Spec.TheVariants as spec
 use Rattle.proc_api.specs.declared.status.Status.TheVariants as status
 use Rattle.proc_shell.proofs.PortMoves.{all-or, both-none, kept-count, never-true, outs-count}
@@ -34,7 +34,7 @@ noted-ports s own i m n growth noted h = h
 
 -- while it asks to grow, each port is open
 opens-now : (x : KernelState) (k : Held) (w : Picture) (st : Status) → AnswerComes st x k w
-    → Some (Prepared st) ≡ Some (Prepared status.ExpandPipeline) → AreOpen (port_flags w)
+    → Some (Prepared st) ≡ Some (Prepared status.ExpandPipeline) → AreOpen (all_port_flags w)
 opens-now x k w status.ExpandPipeline comes e = comes.1
 opens-now x k w st comes e = absurd (cc)
 
@@ -78,11 +78,12 @@ pulled-so h m v u w old new pushes counts =
 module _ (kind : Kind) (d : Option ReaderView) (kernel : KernelState) (b : OwnState) (h k : Held)
     (first last : Notes) (old new : RowCount) (v w : Picture) (st : Status)
     (so : Continues kind kernel (record kernel { own = b }) k)
-    (g : Passes (part kernel h first) v old (part (record kernel { own = b }) k last) w new st)
+    (g : Passes (shell_state kernel h first) v old (shell_state (record kernel { own = b }) k last)
+    w new st)
     (few : out_count v ≤ 16) (ports : HasSpecPorts kernel v)
-    (run : IsRunning (part_seen kind d old (part kernel h first)))
-    (follows : FollowsKept (part_seen kind d old (part kernel h first)) v)
-    (fit : StaysFit (part_seen kind d old (part kernel h first)) v) where
+    (run : IsRunning (loaded_seen kind d old (shell_state kernel h first)))
+    (follows : FollowsKept (loaded_seen kind d old (shell_state kernel h first)) v)
+    (fit : StaysFit (loaded_seen kind d old (shell_state kernel h first)) v) where
   abbrev u : Picture
   u = g.view
 
@@ -90,10 +91,10 @@ module _ (kind : Kind) (d : Option ReaderView) (kernel : KernelState) (b : OwnSt
   m = g.held
 
   abbrev p : BoxPicture
-  p = part_seen kind d old (part kernel h first)
+  p = loaded_seen kind d old (shell_state kernel h first)
 
   abbrev q : BoxPicture
-  q = part_seen kind d new (part (record kernel { own = b }) k last)
+  q = loaded_seen kind d new (shell_state (record kernel { own = b }) k last)
 
   abbrev s : Spec
   s = kernel.spec
@@ -104,7 +105,7 @@ module _ (kind : Kind) (d : Option ReaderView) (kernel : KernelState) (b : OwnSt
   abbrev growth : Option GrowthForm
   growth = growth_in kernel.spec kernel.stage
 
-  last-view : last.view ≡ Some (port_flags w)
+  last-view : last.view ≡ Some (all_port_flags w)
   last-view = ap (λ z. z.view) g.notes
 
   mv : Moves (record kernel { own = b }) m k u w st

@@ -1,12 +1,12 @@
 -- A source of a part's rows has no input and one output.
 use Rattle.proc_shell.proofs.KeepLaws.{cond-none}
-use Rattle.proc_shell.proofs.Imports.{All, AreRead, BoxPicture, HasSize, HasSpecView, IsShelled, IsWorkOf, KeepsMeant, KeepsPart, List, Lists, PartSpec, Row, Some, Stage, Table, [], ap, append-nil, append_assoc, ap₂, arith, chunk_rows, common_steps, false, kept_output, length, length-append, no_table, own_of, part, part_kernel, reading_of, refl, subst, sym, true, work_of, ℕ, ◌++◌, ◌<◌, ◌==◌, ◌∙◌, ◌∷◌, ◌≡◌, ◌⊎◌}
+use Rattle.proc_shell.proofs.Imports.{All, AreRead, BoxPicture, HasSize, HasSpecView, IsShelled, IsWorkOf, KeepsMeant, KeepsPart, List, Lists, PartSpec, Row, Some, SourceStage, Table, [], ap, append-nil, append_assoc, ap₂, arith, chunk_rows, common_steps, false, kept_output, length, length-append, no_table, own_of, part_kernel, reading_of, refl, shell_state, subst, sym, true, work_of, ℕ, ◌++◌, ◌<◌, ◌==◌, ◌∙◌, ◌∷◌, ◌≡◌, ◌⊎◌}
 use Rattle.query_model.specs.declared.processor_spec.Spec.TheVariants as spec
 use Rattle.proc_shell.proofs.PortMoves.{both-none}
-use Rattle.proc_shell.proofs.Through.{IsInOrder, only-output, pushes-in-order}
+use Rattle.proc_shell.proofs.Through.{only-output, pushes-in-order}
 
 -- nothing is unworked, since no input is wanted
-pub part_uses : (part : PartSpec) (unmade : List Row) (stage : Stage) (i : ℕ)
+pub part_uses : (part : PartSpec) (unmade : List Row) (stage : SourceStage) (i : ℕ)
     (unworked made : List Table) → ((i ≡ 0) × (unworked ≡ [])) ⊎ (false ≡ true)
     → IsWorkOf (Some (spec.Csv part)) (work_of (part_kernel part unmade stage) i unworked made)
 part_uses part unmade stage i unworked made e = grind (arith, common_steps)
@@ -101,14 +101,7 @@ pub part_shelled : (part : PartSpec) → IsShelled (spec.Csv part)
 part_shelled part = record {
   still = λ growth kept m n had h position. (h.0 ∙ sym had.0, h.1 ∙ sym had.1);
   enough_one = λ ins enough growth m n h. absurd enough;
-  lets_push = pushes-in-order (spec.Csv part) (in-order part) (λ growth m n h. h.1);
+  lets_push = pushes-in-order (spec.Csv part) refl (λ growth m n h. h.1);
   into = λ p ins outs seen uses sizes t. into-part part p ins outs sizes t;
   from = λ p ins outs seen uses out k. from-part part p ins outs seen uses k;
 }
-  where
-    in-order : (part : PartSpec) → IsInOrder (spec.Csv part)
-    in-order part = record {
-      means = λ x own worked rows. AreRead x part own.unmade rows;
-      into = λ x own worked outs wait h. h;
-      from = λ x own worked outs wait h. h;
-    }

@@ -1,17 +1,17 @@
 -- Pushing what was made.
 use Rattle.proc_shell.proofs.BoxLaws.{by-rows}
-use Rattle.proc_shell.proofs.Imports.{Held, IsCrowded, IsFree, IsSound, List, Made, Nothing, PassesOn, Picture, Pushes, Table, Unworked, [], after_push, ap, arith, by-place, changed-by-none, changed-by-one, common_steps, empty-of, held_made, held_unworked, inl, inr, is_out_finished, just-pushed, length, none-pushed, out_count, output_at, push-turns, push_call, refl, source_of, subst, sym, ℕ, ◌++◌, ◌<◌, ◌∷◌, ◌≡◌, ◌⊎◌}
+use Rattle.proc_shell.proofs.Imports.{Held, IsFreeOutput, IsOutOfRoom, IsSound, List, Made, Nothing, PassesOn, Picture, Pushes, Table, Unworked, [], after_push, ap, arith, by-place, changed-by-none, changed-by-one, common_steps, empty-of, held_made, held_unworked, inl, inr, is_out_finished, just-pushed, length, none-pushed, out_count, output_at, push-turns, push_call, refl, source_of, subst, sym, ℕ, ◌++◌, ◌<◌, ◌∷◌, ◌≡◌, ◌⊎◌}
 use Rattle.proc_shell.proofs.PortMoves.{never-true}
 
 -- the view stays, and these chunks are dropped, where there is no output
 still-pushes : (h k : Held) (left : List Table) (v : Picture) → IsSound v → held_made h
     ≡ left ++ held_made k → held_unworked k ≡ held_unworked h → source_of k ≡ source_of h
-    → (left ≡ []) ⊎ (out_count v ≡ 0) → (0 < length (held_made k) → IsCrowded v) → Pushes h k v v
+    → (left ≡ []) ⊎ (out_count v ≡ 0) → (0 < length (held_made k) → IsOutOfRoom v) → Pushes h k v v
 still-pushes h k left v sound made unworked source e waits =
     grind (arith, common_steps, changed-by-none, none-pushed)
 
 -- nothing leaves
-pub pushes-none : (h : Held) (v : Picture) → IsSound v → (0 < length (held_made h) → IsCrowded v)
+pub pushes-none : (h : Held) (v : Picture) → IsSound v → (0 < length (held_made h) → IsOutOfRoom v)
     → Pushes h h v v
 pushes-none h v sound waits = still-pushes h h [] v sound refl refl refl (inl refl) waits
 
@@ -22,8 +22,8 @@ pushes-nowhere c v sound none = still-pushes (Made c) Nothing (c ∷ []) v sound
     (inr none) (λ lt. absurd (omega (arith, lt)))
 
 -- the chunk leaves by an output that is free
-pub pushes-one : (c : Table) (v w : Picture) (o : ℕ) → IsSound v → IsFree v o → w ≡ after_push v o c
-    → Pushes (Made c) Nothing v w
+pub pushes-one : (c : Table) (v w : Picture) (o : ℕ) → IsSound v → IsFreeOutput v o → w
+    ≡ after_push v o c → Pushes (Made c) Nothing v w
 pushes-one c v w o sound free e = subst (λ u. Pushes (Made c) Nothing v u) (sym e) made
   where
     made : Pushes (Made c) Nothing v (after_push v o c)

@@ -1,11 +1,11 @@
 -- A prepare that works at once what it pulled is two prepares and a work between them.
-use Rattle.proc_shell.proofs.Imports.{AreAsKept, AreMoved, Bool, BoxPicture, Continues, CountsRows, FollowsKept, HasSpecPorts, Held, IsKernelOf, IsRunning, IsSound, IsWorkOf, Keeps, KernelState, Kind, List, Option, PartPrepares, PartWorks, PassesOn, Picture, PreparesLawfully, Pushes, ReaderView, Ready, RowCount, ShellPart, Some, Spec, Status, StaysFit, Table, Takes, Turns, Unworked, WorksHeld, [], and_parts, ap, arith, changed-by-both, common_steps, follows-noted, goes-on, growth_in, held_made, held_option, held_unworked, in_count, is_wanted, lists-pulled, lists-pushed, ltb-true, nat_lt, out_count, part, part_seen, port_flags, position-still, refl, rows-both, rows_pulled, source_of, subst, sym, true, with_pulled, with_pushed, with_view, work_of, ℕ, ◌&&◌, ◌<◌, ◌∙◌, ◌∷◌, ◌≡◌, ◌≤◌}
+use Rattle.proc_shell.proofs.Imports.{AreAsKept, AreMoved, Bool, BoxPicture, Continues, CountsRows, FollowsKept, HasSpecPorts, Held, IsKernelOf, IsRunning, IsSound, IsWorkOf, Keeps, KernelState, Kind, List, LoadedShell, Option, PassesOn, Picture, PreparesLawfully, Pushes, ReaderView, Ready, RowCount, ShellPrepares, ShellWorks, Some, Spec, Status, StaysFit, Table, Takes, Turns, Unworked, WorksHeld, [], all_port_flags, and_parts, ap, arith, changed-by-both, common_steps, follows-noted, goes-on, growth_in, held_made, held_option, held_unworked, in_count, is_wanted, lists-pulled, lists-pushed, loaded_seen, ltb-true, nat_lt, out_count, position-still, refl, rows-both, rows_pulled, shell_state, source_of, subst, sym, true, with_pulled, with_pushed, with_view, work_of, ℕ, ◌&&◌, ◌<◌, ◌∙◌, ◌∷◌, ◌≡◌, ◌≤◌}
 use Rattle.proc_shell.proofs.BoxLaws.{held-source, held-worked, limits-stay, passes-once, works-part}
 use Rattle.proc_shell.proofs.PortMoves.{kept-count, outs-count, same-ports}
 
 -- the view still has the ports of the spec
-pub still-ports : (k : Kind) (p q : ShellPart) (n m : RowCount) (v w : Picture) (s : Status)
-    → PartPrepares k p v n q w m s → HasSpecPorts p.kernel v → HasSpecPorts q.kernel w
+pub still-ports : (k : Kind) (p q : LoadedShell) (n m : RowCount) (v w : Picture) (s : Status)
+    → ShellPrepares k p v n q w m s → HasSpecPorts p.kernel v → HasSpecPorts q.kernel w
 still-ports k p q n m v w s x ports =
     let g = goes-on v w x.changed in
     subst (λ z. HasSpecPorts z w) (sym x.continues.kernel)
@@ -13,14 +13,14 @@ still-ports k p q n m v w s x ports =
     (in_count w)
     (out_count w) (sym g.ins) (sym g.outs) ports)
 
-module _ (k : Kind) (p a b q : ShellPart) (n m l : RowCount) (v u w : Picture) (s : Status)
-    (sound : IsSound u) (first : PartPrepares k p v n a u m Ready) (work : PartWorks k a b)
-    (last : PartPrepares k b u m q w l s) where
+module _ (k : Kind) (p a b q : LoadedShell) (n m l : RowCount) (v u w : Picture) (s : Status)
+    (sound : IsSound u) (first : ShellPrepares k p v n a u m Ready) (work : ShellWorks k a b)
+    (last : ShellPrepares k b u m q w l s) where
   spec-stays : Some b.kernel.spec ≡ Some p.kernel.spec
   spec-stays =
       ap (λ z. Some z.spec) work.continues.kernel ∙ ap (λ z. Some z.spec) first.continues.kernel
 
-  noted : b.notes.view ≡ Some (port_flags u)
+  noted : b.notes.view ≡ Some (all_port_flags u)
   noted = ap (λ z. z.view) work.notes ∙ ap (λ z. z.view) first.notes
 
   kernel-both : IsKernelOf p.kernel q.kernel
@@ -29,9 +29,9 @@ module _ (k : Kind) (p a b q : ShellPart) (n m l : RowCount) (v u w : Picture) (
   notes-both : q.notes ≡ with_view w s (record p.notes { fits = last.fits })
   notes-both = grind (arith, common_steps)
 
-  lawful-both : (d : Option ReaderView) → IsRunning (part_seen k d n p)
-      → FollowsKept (part_seen k d n p) v
-      → PreparesLawfully (part_seen k d n p) v (part_seen k d l q) w s
+  lawful-both : (d : Option ReaderView) → IsRunning (loaded_seen k d n p)
+      → FollowsKept (loaded_seen k d n p) v
+      → PreparesLawfully (loaded_seen k d n p) v (loaded_seen k d l q) w s
   lawful-both d run f = record {
     law = y.law;
     comes = y.comes;
@@ -54,15 +54,15 @@ module _ (k : Kind) (p a b q : ShellPart) (n m l : RowCount) (v u w : Picture) (
   }
     where
       B : BoxPicture
-      B = part_seen k d m b
+      B = loaded_seen k d m b
 
       Q : BoxPicture
-      Q = part_seen k d l q
+      Q = loaded_seen k d l q
 
-      x : PreparesLawfully (part_seen k d n p) v (part_seen k d m a) u Ready
+      x : PreparesLawfully (loaded_seen k d n p) v (loaded_seen k d m a) u Ready
       x = first.lawful d run f
 
-      after : IsRunning (part_seen k d m a)
+      after : IsRunning (loaded_seen k d m a)
       after = record {
         loaded = refl;
         faultless = ap (λ z. z.fault) first.notes ∙ run.faultless;
@@ -79,7 +79,7 @@ module _ (k : Kind) (p a b q : ShellPart) (n m l : RowCount) (v u w : Picture) (
       y : PreparesLawfully B u Q w s
       y = last.lawful d between (follows-noted B u noted)
 
-      fits-on : StaysFit (part_seen k d n p) v → StaysFit B u
+      fits-on : StaysFit (loaded_seen k d n p) v → StaysFit B u
       fits-on fit = record {
         fits = ap (λ z. z.fits) work.notes ∙ x.fits fit;
         ports =
@@ -95,7 +95,7 @@ module _ (k : Kind) (p a b q : ShellPart) (n m l : RowCount) (v u w : Picture) (
             (sym (kept-count u), sym (outs-count u)));
       }
 
-  pub prepares-twice : PartPrepares k p v n q w l s
+  pub prepares-twice : ShellPrepares k p v n q w l s
   prepares-twice = record {
     continues = record {
       kernel = kernel-both;
@@ -126,7 +126,8 @@ pub turns-once : (k : Kind) (x y : KernelState) (h i j : Held) (n m : RowCount) 
     (s : Status) → Continues k x y j → HasSpecPorts x v → out_count v ≤ 16 → Pushes h i v u
     → Turns x y.own i j u w s → CountsRows (rows_pulled u w) n m → AreMoved k x h v n y j w m s
 turns-once k x y h i j n m v u w s so ports few pushes turns counts = λ notes.
-    passes-once k (part x h notes) (part y j (with_view w s notes)) n m v w s so few ports
+    passes-once k (shell_state x h notes) (shell_state y j (with_view w s notes)) n m v w s so few
+    ports
     (record {
       held = i;
       view = u;
@@ -137,16 +138,18 @@ turns-once k x y h i j n m v u w s so ports few pushes turns counts = λ notes.
     })
 
 -- a turn behind one of which the chunk that it pulled was passed on
-pub turns-again : (k : Kind) (wants : ℕ → Bool) (makes : Bool) (p a : ShellPart) (y : KernelState)
+pub turns-again : (k : Kind) (wants : ℕ → Bool) (makes : Bool) (p a : LoadedShell) (y : KernelState)
     (i h : Held) (n m l : RowCount) (v u t w : Picture) (r s : Status) → PassesChunks a.kernel
     → r ≡ Ready → HasSpecPorts p.kernel v → out_count v ≤ 16
     → is_wanted wants makes a.held ≡ true → PassesOn a.held i u t → Continues k a.kernel y h
     → Turns a.kernel y.own i h t w s → CountsRows (rows_pulled t w) m l
-    → PartPrepares k p v n a u m r → PartPrepares k p v n (part y h (with_view w s a.notes)) w l s
+    → ShellPrepares k p v n a u m r → ShellPrepares k p v n
+    (shell_state y h (with_view w s a.notes)) w l s
 turns-again k wants makes p a y i h n m l v u t w r s passes ready ports few wanted on so turns
     counts so-far =
-    prepares-twice k p a b (part y h (with_view w s a.notes)) n m l v u w s on.sound first work
-    (passes-once k b (part y h (with_view w s a.notes)) m l u w s so
+    prepares-twice k p a b (shell_state y h (with_view w s a.notes)) n m l v u w s on.sound first
+    work
+    (passes-once k b (shell_state y h (with_view w s a.notes)) m l u w s so
     (omega (arith, few, (goes-on v u first.changed).outs))
     (still-ports k p a n m v u Ready first ports)
     (record {
@@ -158,13 +161,13 @@ turns-again k wants makes p a y i h n m l v u t w r s passes ready ports few wan
       notes = refl;
     }))
   where
-    first : PartPrepares k p v n a u m Ready
-    first = subst (PartPrepares k p v n a u m) ready so-far
+    first : ShellPrepares k p v n a u m Ready
+    first = subst (ShellPrepares k p v n a u m) ready so-far
 
     waits : Held
     waits = held_option (Some on.chunk)
 
-    b : ShellPart
+    b : LoadedShell
     b = record { kernel = a.kernel; held = waits; notes = record a.notes { acted = true } }
 
     in-range : on.input < 32
@@ -182,7 +185,7 @@ turns-again k wants makes p a y i h n m l v u t w r s passes ready ports few wan
         (subst (λ z. UsesHeld z a.held) (sym (ap (λ z. Some z.spec) first.continues.kernel))
         first.continues.uses)
 
-    work : PartWorks k a b
+    work : ShellWorks k a b
     work = record {
       continues = record {
         kernel = refl;

@@ -1,6 +1,6 @@
 -- Kinds of one input and one output, and among them those that make something of each chunk by
 -- itself.
-use Rattle.proc_shell.proofs.Imports.{AreCounts, AreLastPulled, ArePortsOf, Bool, BoxPicture, FileSeen, FitsInput, GrowthForm, HasMade, HasNotedEnd, HasReadEnough, HasSpecView, IfSome, IsAtMost, IsPermutation, IsPulled, IsReadOut, IsShelled, IsWorkOf, KeepsMade, KeepsMeant, KeepsRows, KeepsThrough, KernelState, LetsPush, List, Lists, Makes, MakesTypes, Means, None, Option, OwnState, PortFlags, Reading, Row, Some, Spec, StandStill, Table, Takes, WorkState, [], all_rows, ap, append-nil, append_assoc, append_cancel_right, arith, by-place, chunk_rows, common_steps, cond, drop, drop-append_seam, eq-eqb, eqb-true, false, file_of, gathered_with, get_or-eq_default, inl, inr, kept_output, length, more-rows, most_rows, ne_eqb, own_of, part, reading_of, refl, rows-append, rows_of, subst, sym, take, take-append-drop, true, unworked_at, with_chunk, work_of, ℕ, ◌++◌, ◌<◌, ◌==◌, ◌∙◌, ◌∷◌, ◌≡◌, ◌≢◌, ◌⊎◌}
+use Rattle.proc_shell.proofs.Imports.{AreCounts, AreLastPulled, ArePortsOf, Bool, BoxPicture, FileSeen, FitsInput, GrowthForm, HasMade, HasReadEnough, HasSpecView, IfSome, IsAtMost, IsPermutation, IsPulled, IsReadOut, IsShelled, KeepsMade, KeepsMeant, KeepsRows, KernelState, LetsPush, List, Lists, Makes, MakesTypes, Means, None, Option, OwnState, PortFlags, Reading, Row, Some, Spec, StandStill, Table, Takes, [], all_rows, ap, append-nil, arith, by-place, chunk_rows, common_steps, cond, drop, drop-append_seam, eq-eqb, eqb-true, false, file_of, gathered_with, get_or-eq_default, inl, inr, kept_output, length, more-rows, most_rows, ne_eqb, own_of, reading_of, refl, rows-append, rows_if_some, shell_state, subst, sym, take, take-append-drop, true, unworked_at, with_chunk, work_of, ℕ, ◌++◌, ◌<◌, ◌==◌, ◌∙◌, ◌∷◌, ◌≡◌, ◌≢◌, ◌⊎◌}
 use Rattle.query_model.specs.declared.processor_spec.Spec.TheVariants as spec
 
 -- ---- what is worked
@@ -39,17 +39,26 @@ makes-nothing s own e = grind (arith, common_steps)
 
 -- ---- one output
 
--- what is said of the rows of output 0 and those that wait together is said of them in order
-pub record IsInOrder (s : Spec) : Type 1 where
-  pub means : Reading → OwnState → Lists → List Row → Type 0
-  pub into : (x : Reading) (own : OwnState) (worked outs : Lists) (wait : List Row)
-      → means x own worked (chunk_rows (outs 0) ++ wait) → Means x s own worked outs wait
-  pub from : (x : Reading) (own : OwnState) (worked outs : Lists) (wait : List Row)
-      → Means x s own worked outs wait → means x own worked (chunk_rows (outs 0) ++ wait)
+-- the kinds of which something is said of the rows of output 0 and those that wait, in order
+abbrev pub is_in_order : Spec → Bool
+is_in_order (spec.List list) = false
+is_in_order spec.Resize = false
+is_in_order spec.Collect = false
+is_in_order s = true
 
-pub pushes-in-order : (s : Spec) → IsInOrder s → ((growth : Option GrowthForm) (inputs outputs : ℕ)
+in-order : (s : Spec) → is_in_order s ≡ true → (x : Reading) (own : OwnState)
+    (worked outs more : Lists) (wait rest : List Row)
+    → chunk_rows (more 0) ++ rest ≡ chunk_rows (outs 0) ++ wait → Means x s own worked outs wait
+    → Means x s own worked more rest
+in-order (spec.List list) i x own worked outs more wait rest e h = absurd (cc)
+in-order spec.Resize i x own worked outs more wait rest e h = absurd (cc)
+in-order spec.Collect i x own worked outs more wait rest e h = absurd (cc)
+in-order s i x own worked outs more wait rest e h = rw e h
+
+pub pushes-in-order : (s : Spec) → is_in_order s ≡ true
+    → ((growth : Option GrowthForm) (inputs outputs : ℕ)
     → ArePortsOf (Some s) growth inputs outputs → outputs ≡ 1) → LetsPush s
-pushes-in-order s k one x own worked outs more growth inputs outputs o pushed rest ports at others
+pushes-in-order s i one x own worked outs more growth inputs outputs o pushed rest ports at others
     h =
     elim at [
       | inl y ↦
@@ -57,7 +66,10 @@ pushes-in-order s k one x own worked outs more growth inputs outputs o pushed re
           let lt = y.0 in
           let z : o ≡ 0 = omega (arith, e, lt) in
           let first : more 0 ≡ outs 0 ++ pushed = subst (λ n. more n ≡ outs n ++ pushed) z y.2 in
-          grind (arith, common_steps, rows-append)
+          let same : chunk_rows (more 0) ++ chunk_rows rest
+          ≡ chunk_rows (outs 0) ++ chunk_rows (pushed ++ rest) =
+          grind (arith, common_steps, rows-append) in
+          in-order s i x own worked outs more (chunk_rows (pushed ++ rest)) (chunk_rows rest) same h
       | inr none ↦ absurd (let e = one growth inputs outputs ports in omega (arith, e, none))
     ]
 
@@ -77,6 +89,10 @@ record IsPlain (s : Spec) : Type 0 where
   made : (x : Reading) (own : OwnState) (worked outs : Lists) (wait : List Row)
       → Means x s own worked outs wait → HasMade s own worked outs wait
   read : (f : FileSeen) → IsReadOut s f
+  into : (p : BoxPicture) (ins outs : Lists) → KeepsMade s p ins outs
+      → KeepsRows (Some s) p ins outs
+  from : (p : BoxPicture) (ins outs : Lists) → KeepsRows (Some s) p ins outs
+      → KeepsMade s p ins outs
 
 plain : (s : Spec) → is_plain s ≡ true → IsPlain s
 plain (spec.Csv part) e = absurd (cc)
@@ -85,9 +101,10 @@ plain spec.Collect e = absurd (cc)
 plain s e = record {
   shown = λ g u. refl;
   means = λ x own worked outs wait h. h;
-  made =
-      λ x own worked outs wait h. h;
+  made = λ x own worked outs wait h. h;
   read = λ f. tt;
+  into = λ p ins outs h. h;
+  from = λ p ins outs h. h;
 }
 
 meant-of : (s : Spec) → is_plain s ≡ true → (p : BoxPicture) (ins outs : Lists)
@@ -114,76 +131,57 @@ pub record HasPortCounts (s : Spec) (inputs : ℕ) : Type 0 where
   pub ports : (growth : Option GrowthForm) (m n : ℕ) → ArePortsOf (Some s) growth m n
       → AreCounts m n inputs 1
 
--- a plain kind whose box keeps what was made
+-- a plain kind
 pub shelled-plain : (s : Spec) → is_plain s ≡ true
     → ((growth : Option GrowthForm) (kept : PortFlags) (m n : ℕ) → ArePortsOf (Some s) growth
     (length kept.inputs) (length kept.outputs) → ArePortsOf (Some s) growth m n
     → StandStill (Some s) (Some kept) m n → (m ≡ length kept.inputs) × (n ≡ length kept.outputs))
     → ((ins : Lists) → HasReadEnough (Some s) ins → (growth : Option GrowthForm) (m n : ℕ)
-    → ArePortsOf (Some s) growth m n → n ≡ 1) → LetsPush s → ((p : BoxPicture) (ins outs : Lists)
-    → IsWorkOf (Some s) p.work → KeepsMade s p ins outs → KeepsRows (Some s) p ins outs)
-    → ((p : BoxPicture) (ins outs : Lists) → HasSpecView s p → IsWorkOf (Some s) p.work
-    → KeepsRows (Some s) p ins outs → KeepsMade s p ins outs) → IsShelled s
-shelled-plain s e still enough pushes into from = record {
-  still = still;
-  enough_one = enough;
-  lets_push = pushes;
-  into = λ p ins outs seen uses sizes t. into p ins outs uses (made-of s e p ins outs t);
-  from = λ p ins outs seen uses out t. meant-of s e p ins outs (from p ins outs seen uses t);
-}
+    → ArePortsOf (Some s) growth m n → n ≡ 1) → LetsPush s → IsShelled s
+shelled-plain s e still enough pushes =
+    let k = plain s e in
+    record {
+      still = still;
+      enough_one = enough;
+      lets_push = pushes;
+      into = λ p ins outs seen uses sizes t. k.into p ins outs (made-of s e p ins outs t);
+      from = λ p ins outs seen uses out t. meant-of s e p ins outs (k.from p ins outs t);
+    }
 
 -- a plain kind with one output whose ports its spec fixes
-pub shelled-of : (s : Spec) (inputs : ℕ) → is_plain s ≡ true → HasPortCounts s inputs → IsInOrder s
-    → ((p : BoxPicture) (ins outs : Lists) → IsWorkOf (Some s) p.work → KeepsMade s p ins outs
-    → KeepsRows (Some s) p ins outs) → ((p : BoxPicture) (ins outs : Lists) → HasSpecView s p →
-    IsWorkOf (Some s) p.work → KeepsRows (Some s) p ins outs → KeepsMade s p ins outs) → IsShelled s
-shelled-of s inputs e c k into from =
+pub shelled-of : (s : Spec) (inputs : ℕ) → is_plain s ≡ true → is_in_order s ≡ true
+    → HasPortCounts s inputs → IsShelled s
+shelled-of s inputs e i c =
     shelled-plain s e
     (λ growth kept m n had h position. let x = c.ports growth (length kept.inputs)
     (length kept.outputs) had in let y = c.ports growth m n h in (y.0 ∙ sym x.0, y.1 ∙ sym x.1))
     (λ ins enough growth m n h. (c.ports growth m n h).1)
-    (pushes-in-order s k (λ growth m n h. (c.ports growth m n h).1)) into from
+    (pushes-in-order s i (λ growth m n h. (c.ports growth m n h).1))
 
 -- ---- each chunk by itself
 
--- what is made of two lists of rows is made of each
-pub record MakesEach (make : List Row → List Row) : Type 0 where
-  pub nothing : make [] ≡ []
-  pub both : (xs ys : List Row) → make (xs ++ ys) ≡ make xs ++ make ys
-
--- what a kind has made are the rows that are made of those of its chunks
+-- what a kind has made are the rows that are made of those of its chunks, of each by itself
 pub record IsMaker (s : Spec) (make : List Row → List Row) : Type 0 where
-  pub each : MakesEach make
+  pub both : (xs ys : List Row) → make (xs ++ ys) ≡ make xs ++ make ys
   pub plain : is_plain s ≡ true
   pub into : (own : OwnState) (worked outs : Lists) (wait : List Row)
       → chunk_rows (outs 0) ++ wait ≡ make (chunk_rows (worked 0)) → HasMade s own worked outs wait
   pub from : (own : OwnState) (worked outs : Lists) (wait : List Row)
       → HasMade s own worked outs wait → chunk_rows (outs 0) ++ wait ≡ make (chunk_rows (worked 0))
-  pub noted : (own : OwnState) → HasNotedEnd s own
-
-pub maker-order : (s : Spec) (make : List Row → List Row) → IsMaker s make → IsInOrder s
-maker-order s make k =
-    let y = plain s k.plain in
-    record {
-      means = λ x own worked rows. rows ≡ make (chunk_rows (worked 0));
-      into = λ x own worked outs wait h. y.means x own worked outs wait
-          (k.into own worked outs wait h);
-      from =
-          λ x own worked outs wait h. k.from own worked outs wait (y.made x own worked outs wait h);
-    }
 
 pub takes-each : (s : Spec) (make : List Row → List Row) → IsMaker s make
     → (own : OwnState) (i : ℕ) (t : Table) (o : Option Table) → i ≡ 0
-    → (FitsInput (Some s) i t.types → rows_of o ≡ make t.rows) → ((ins : Lists)
+    → (FitsInput (Some s) i t.types → rows_if_some o ≡ make t.rows) → ((ins : Lists)
     → IsPulled ins t.types → IfSome o (λ (c : Table). MakesTypes (Some s) ins c.types)) → IfSome o
     (λ (c : Table). IsAtMost (most_rows (Some s)) (length c.rows)) → Takes s own i t own o
 takes-each s make k own i t o z rows types sizes = record {
   means = λ x fits worked outs h. subst (λ n. Means x s own (with_chunk n t worked) outs
-      (rows_of o)) (sym z) ((plain s k.plain).means x own (with_chunk 0 t worked) outs (rows_of o)
-      (k.into own (with_chunk 0 t worked) outs (rows_of o) (ap (λ l. l ++ rows_of o)
+      (rows_if_some o)) (sym z)
+      ((plain s k.plain).means x own (with_chunk 0 t worked) outs (rows_if_some o)
+      (k.into own (with_chunk 0 t worked) outs (rows_if_some o) (ap (λ l. l ++ rows_if_some o)
       (sym (append-nil (chunk_rows (outs 0))) ∙ k.from own worked outs [] ((plain s k.plain).made x
       own worked outs [] h)) ∙ ap (λ l. make (chunk_rows (worked 0)) ++ l) (rows fits)
-      ∙ sym (k.each.both (chunk_rows (worked 0)) t.rows) ∙ ap make (sym (rows-here t worked)))));
+      ∙ sym (k.both (chunk_rows (worked 0)) t.rows) ∙ ap make (sym (rows-here t worked)))));
   types = types;
   sizes = sizes;
   ends = λ i n. n;
@@ -249,50 +247,6 @@ only-output s inputs c p seen o fin =
     let one = (c.ports x.growth x.inputs x.outputs x.ports).1 in
     let lt = x.within in
     omega (arith, one, lt)
-
--- ---- the contract of such kinds is that of `KeepsThrough`
-
-pub into-through : (s : Spec) (make : List Row → List Row) → IsMaker s make → (p : BoxPicture)
-    (ins outs : Lists) → KeepsMade s p ins outs → p.work.source ≡ 0 → KeepsThrough make p ins outs
-into-through s make k p ins outs t source =
-    grind (arith, common_steps, rows-append, last-here, here-unworked)
-
-pub from-through : (s : Spec) (make : List Row → List Row) → IsMaker s make → (p : BoxPicture)
-    (ins outs : Lists) → p.work.unmade ≡ [] → p.work.source ≡ 0 → ((o : ℕ) → (kept_output p
-    o).fin_out ≡ true → o ≡ 0) → KeepsThrough make p ins outs → KeepsMade s p ins outs
-from-through s make k p ins outs none source only t =
-    let x = split-here p ins source t.last in
-    record {
-      worked = x.worked;
-      ins_are = x.ins_are;
-      rows = k.into (own_of p.work) x.worked outs (chunk_rows p.work.made)
-          (append_cancel_right (chunk_rows (outs 0) ++ chunk_rows p.work.made)
-          (make (chunk_rows (x.worked 0))) (make (chunk_rows p.work.unworked)) (append_assoc
-          (chunk_rows (outs 0)) (chunk_rows p.work.made) (make (chunk_rows p.work.unworked))
-          ∙ t.rows ∙ ap (λ l. make (chunk_rows l)) x.split ∙ ap make (rows-append (x.worked 0)
-          p.work.unworked) ∙ k.each.both (chunk_rows (x.worked 0)) (chunk_rows p.work.unworked)));
-      over = λ o fin.
-          let first : (kept_output p 0).fin_out ≡ true =
-          subst (λ n. (kept_output p n).fin_out ≡ true) (only o fin) fin in
-          record {
-            nothing_waits = t.nothing_waits first;
-            all_worked = t.all_worked first;
-            all_made = none;
-            noted = k.noted (own_of p.work);
-          };
-    }
-
--- a kind of one input and one output that makes something of each chunk by itself
-pub shelled-through : (s : Spec) (make : List Row → List Row) → IsMaker s make → HasPortCounts s 1
-    → ((p : BoxPicture) (ins outs : Lists) → KeepsThrough make p ins outs
-    → KeepsRows (Some s) p ins outs) → ((p : BoxPicture) (ins outs : Lists)
-    → KeepsRows (Some s) p ins outs → KeepsThrough make p ins outs)
-    → ((w : WorkState) → IsWorkOf (Some s) w → (w.unmade ≡ []) × (w.source ≡ 0)) → IsShelled s
-shelled-through s make k c into from idle =
-    shelled-of s 1 k.plain c (maker-order s make k)
-    (λ p ins outs uses t. into p ins outs (into-through s make k p ins outs t (idle p.work uses).1))
-    (λ p ins outs seen uses t. from-through s make k p ins outs (idle p.work uses).0
-    (idle p.work uses).1 (only-output s 1 c p seen) (from p ins outs t))
 
 -- what such a kind doesn't use is idle, since all that isn't worked came from the first input
 pub first-source : (x : KernelState) (i : ℕ) (unworked made : List Table) → ((i ≡ 0)

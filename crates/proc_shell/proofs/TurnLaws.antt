@@ -1,5 +1,5 @@
 -- What each turn of a shell moves.
-use Rattle.proc_shell.proofs.Imports.{AllOutputsFinished, AreCounts, AreOpen, Bool, Flags, IsWantedFull, KernelState, Leaves, MayMake, Moves, Nothing, OwnState, Picture, PullsOne, Some, Spec, Table, TurnsInput, Unworked, after_pull, ap, ap₂, arith, by-place, cases_lt, changed-by-both, changed-by-one, common_steps, emptied, false, get_or-eq_default, get_or_default, holds_data, in_count, inl, inr, input_at, is_ended, is_out_finished, no_flags, none-pulled, not-true, or_parts, out_count, output_at, over_flags, port_flags, pull-turns, pull_call, refl, subst, taken_out, true, ℕ, ◌<◌, ◌∙◌, ◌≡◌}
+use Rattle.proc_shell.proofs.Imports.{AllOutputsFinished, AreCounts, AreOpen, Bool, Flags, IsWantedFull, KernelState, Leaves, MayMake, Moves, Nothing, OwnState, Picture, PullsOne, Some, Spec, Table, TurnsInput, Unworked, after_pull, ap, ap₂, arith, by-place, cases_lt, changed-by-both, changed-by-one, common_steps, emptied, false, get_or-eq_default, get_or_default, holds_data, in_count, inl, inr, input_at, is_ended, is_out_finished, no_flags, none-pulled, not-true, or_parts, out_count, output_at, over_flags, all_port_flags, pull-turns, pull_call, refl, subst, taken_out, true, ℕ, ◌<◌, ◌∙◌, ◌≡◌}
 use Rattle.proc_api.specs.declared.status.Status.TheVariants as status
 use Rattle.proc_shell.proofs.PortMoves.{kept-count, never-true}
 
@@ -12,7 +12,7 @@ leaves-same s own = record { means = λ x worked outs wait h. h; stays_over = λ
 
 -- where there is no input, and one output, which has room, each port is open
 pub open-ports : (v : Picture) → AreCounts (in_count v) (out_count v) 0 1 → MayMake v
-    → AreOpen (port_flags v)
+    → AreOpen (all_port_flags v)
 unfolding in_count out_count output_at
 open-ports v n may = record {
   outputs = λ o. elim (cases_lt o (out_count v)) [
@@ -26,7 +26,7 @@ open-ports v n may = record {
     | inr le ↦ ap (λ (f : Flags). f.fin_out) (get_or-eq_default v.outputs no_flags le)
   ];
   inputs = λ i. ap (λ (f : Flags). f.fin_in)
-      (get_or-eq_default (port_flags v).inputs no_flags
+      (get_or-eq_default (all_port_flags v).inputs no_flags
       (let none = n.0 in let l = kept-count v in omega (arith, none, l)));
 }
 

@@ -8,9 +8,9 @@ use Rattle.proc_api.specs.declared.status.WorkFault.TheVariants as fault
 use Rattle.proc_shell.specs.declared.kernel.Offer.TheVariants as offer
 use Rattle.proc_shell.specs.Steps.{AreWantedOver}
 
-abbrev pub rows_of : Option Table → List Row
-rows_of None = []
-rows_of (Some t) = t.rows
+abbrev pub rows_if_some : Option Table → List Row
+rows_if_some None = []
+rows_if_some (Some t) = t.rows
 
 abbrev pub chunk_list : Option Table → List Table
 chunk_list None = []
@@ -19,7 +19,7 @@ chunk_list (Some t) = t ∷ []
 -- What no call that works a chunk changes: whether the kernel has opened its file, whether it has
 -- fetched it whole, its first bytes until then, what is known of the file from then on, whether it
 -- let its graph grow, and whether it has handed its chunks out.
-pub record Stage : Type 0 where
+pub record SourceStage : Type 0 where
   pub opened : Bool
   pub fetched : Bool
   pub held : List ℕ
@@ -29,7 +29,7 @@ pub record Stage : Type 0 where
   pub grown : Bool
   pub handed_out : Bool
 
-abbrev pub first_stage : Stage
+abbrev pub first_stage : SourceStage
 first_stage = record {
   opened = false;
   fetched = false;
@@ -46,11 +46,11 @@ abbrev pub spec_growth : Spec → List (List ℕ) → Option GrowthForm
 spec_growth (spec.List list) paths = Some (list_growth list paths)
 spec_growth s paths = None
 
-abbrev pub growth_in : Spec → Stage → Option GrowthForm
+abbrev pub growth_in : Spec → SourceStage → Option GrowthForm
 growth_in s g = cond g.grown (spec_growth s g.paths) None
 
 -- what is known of its file
-abbrev pub file_in : Spec → Stage → FileSeen
+abbrev pub file_in : Spec → SourceStage → FileSeen
 file_in s g = record {
   fetched = g.fetched;
   bad = g.bad;
@@ -64,7 +64,7 @@ pub record KernelState : Type 0 where
   pub kind : Kind
   pub spec : Spec
   pub own : OwnState
-  pub stage : Stage
+  pub stage : SourceStage
 
 -- a kernel that reads no file
 abbrev pub kernel_of : Kind → Spec → OwnState → KernelState
@@ -79,7 +79,7 @@ abbrev pub IsLeftOf : KernelState → KernelState → Type 0
 IsLeftOf x y = y ≡ record x { own = y.own; stage = record x.stage { bad = y.stage.bad } }
 
 -- the kernel of a part, with the rows that it hasn't made yet
-abbrev pub part_kernel : PartSpec → List Row → Stage → KernelState
+abbrev pub part_kernel : PartSpec → List Row → SourceStage → KernelState
 part_kernel part unmade stage = record {
   kind = kind.Csv;
   spec = spec.Csv part;
@@ -231,7 +231,7 @@ Fails x _ = ⊥
 
 -- a row was made, or no bad record is left, and the list isn't bad
 abbrev pub IsValid : KernelState → Option Table → Type 0
-IsValid x o = (0 < length (rows_of o)) ⊎ ((x.stage.bad ≡ None) × (x.stage.bad_line ≡ None))
+IsValid x o = (0 < length (rows_if_some o)) ⊎ ((x.stage.bad ≡ None) × (x.stage.bad_line ≡ None))
 
 -- an offer leaves what was made, and what was over stays over
 pub record Leaves (s : Spec) (old new : OwnState) : Type 0 where
@@ -255,7 +255,7 @@ NotesNoEnd s old new = (i : ℕ) → NotesEnd (Some s) new i → NotesEnd (Some 
 pub record Takes (s : Spec) (old : OwnState) (i : ℕ) (t : Table) (new : OwnState)
     (o : Option Table) : Type 0 where
   pub means : (x : Reading) → FitsInput (Some s) i t.types → (worked outs : Lists)
-      → Means x s old worked outs [] → Means x s new (with_chunk i t worked) outs (rows_of o)
+      → Means x s old worked outs [] → Means x s new (with_chunk i t worked) outs (rows_if_some o)
   pub types : (ins : Lists) → IsPulled ins t.types
       → IfSome o (λ (c : Table). MakesTypes (Some s) ins c.types)
   pub sizes : IfSome o (λ (c : Table). IsAtMost (most_rows (Some s)) (length c.rows))
@@ -264,10 +264,10 @@ pub record Takes (s : Spec) (old : OwnState) (i : ℕ) (t : Table) (new : OwnSta
 -- rows that can be made are made, where there are some
 pub record Makes (s : Spec) (old new : OwnState) (o : Option Table) : Type 0 where
   pub means : (x : Reading) (worked outs : Lists) → Means x s old worked outs []
-      → Means x s new worked outs (rows_of o)
+      → Means x s new worked outs (rows_if_some o)
   pub types : (ins : Lists) → IfSome o (λ (c : Table). MakesTypes (Some s) ins c.types)
   pub sizes : IfSome o (λ (c : Table). IsAtMost (most_rows (Some s)) (length c.rows))
-  pub progress : (0 < length (rows_of o)) ⊎ (new.unmade ≡ [])
+  pub progress : (0 < length (rows_if_some o)) ⊎ (new.unmade ≡ [])
   pub nothing : old.unmade ≡ [] → (new ≡ old) × (o ≡ None)
   pub ends : NotesNoEnd s old new
 

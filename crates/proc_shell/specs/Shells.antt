@@ -1,6 +1,6 @@
 -- What is seen of a shell, and what its calls do.
 use Rattle.std.specs.Prelude.{◌+◌, ◌≡◌, ◌≢◌, ◌≤◌, ◌⊎◌}
-use Rattle.proc_shell.specs.Prelude.{ArePortsOf, Bool, BoxPicture, ChangedByCalls, Err, Files, FollowsKept, GrowthForm, Held, IsRunning, IsShut, IsWorkOf, Kind, List, Made, None, Notes, Nothing, Ok, Option, OwnState, Picture, Prepared, PreparesLawfully, Result, RowCount, SameChunks, Scheduled, Some, Spec, Status, Table, Unworked, Wake, WorkFault, WorkState, false, handed_out_by, idle_work, in_count, kind_of, no_notes, out_count, port_flags, rows_pulled, true, ℕ}
+use Rattle.proc_shell.specs.Prelude.{ArePortsOf, Bool, BoxPicture, ChangedByCalls, Err, Files, FollowsKept, GrowthForm, Held, IsRunning, IsShut, IsWorkOf, Kind, List, Made, None, Notes, Nothing, Ok, Option, OwnState, Picture, Prepared, PreparesLawfully, Result, RowCount, SameChunks, Scheduled, Some, Spec, Status, Table, Unworked, Wake, WorkFault, WorkState, all_port_flags, false, handed_out_by, idle_work, in_count, kind_of, no_notes, out_count, rows_pulled, true, ℕ}
 use Rattle.query_model.specs.declared.processor_spec.Kind.TheVariants as kind
 use Rattle.proc_api.specs.declared.status.Status.TheVariants as status
 use Rattle.proc_shell.specs.Steps.{CountsRows, held_made, held_option, held_unworked, source_of}
@@ -8,16 +8,16 @@ use Rattle.proc_shell.specs.Kernels.{Begins, IsKernelOf, IsLeftOf, IsShelled, Is
 use Rattle.proc_shell.specs.Turning.{Pushes, Turns}
 
 -- a loaded shell: its kernel, the chunk that it holds, and its notes
-pub record ShellPart : Type 0 where
+pub record LoadedShell : Type 0 where
   pub kernel : KernelState
   pub held : Held
   pub notes : Notes
 
-abbrev pub part : KernelState → Held → Notes → ShellPart
-part x h n = record { kernel = x; held = h; notes = n }
+abbrev pub shell_state : KernelState → Held → Notes → LoadedShell
+shell_state x h n = record { kernel = x; held = h; notes = n }
 
-abbrev pub part_work : ShellPart → WorkState
-part_work p = work_of p.kernel (source_of p.held) (held_unworked p.held) (held_made p.held)
+abbrev pub shell_work : LoadedShell → WorkState
+shell_work p = work_of p.kernel (source_of p.held) (held_unworked p.held) (held_made p.held)
 
 -- a reader: the files that it tells, and its counts
 pub record ReaderView : Type 0 where
@@ -54,22 +54,22 @@ box_seen k d count s w n growth = record {
   growth = growth;
 }
 
-abbrev pub part_seen : Kind → Option ReaderView → RowCount → ShellPart → BoxPicture
-part_seen k d count p = box_seen k d count (Some p.kernel.spec) (part_work p) (record p.notes {
+abbrev pub loaded_seen : Kind → Option ReaderView → RowCount → LoadedShell → BoxPicture
+loaded_seen k d count p = box_seen k d count (Some p.kernel.spec) (shell_work p) (record p.notes {
   given = noted_by d p.notes.given;
   faults = noted_by d p.notes.faults;
   pendings = noted_by d p.notes.pendings;
   pulled = count.since;
 }) (growth_in p.kernel.spec p.kernel.stage)
 
-abbrev pub shell_seen : Kind → Option ReaderView → RowCount → Option ShellPart → BoxPicture
+abbrev pub shell_seen : Kind → Option ReaderView → RowCount → Option LoadedShell → BoxPicture
 shell_seen k d count None = box_seen k d count None idle_work no_notes None
-shell_seen k d count (Some p) = part_seen k d count p
+shell_seen k d count (Some p) = loaded_seen k d count p
 
 -- a shell, which counts the rows that it pulled
 pub record ShellView : Type 0 where
   pub count : RowCount
-  pub loaded : Option ShellPart
+  pub loaded : Option LoadedShell
 
 abbrev pub view_seen : Kind → ShellView → BoxPicture
 view_seen k s = shell_seen k None s.count s.loaded
@@ -79,21 +79,22 @@ abbrev pub HasSpecPorts : KernelState → Picture → Type 0
 HasSpecPorts x v = ArePortsOf (Some x.spec) (growth_in x.spec x.stage) (in_count v) (out_count v)
 
 -- a shell as it is loaded
-pub record IsBegun (s : Spec) (p : ShellPart) : Type 0 where
+pub record IsBegun (s : Spec) (p : LoadedShell) : Type 0 where
   pub begins : Begins s p.kernel.spec p.kernel.own
   pub stage : p.kernel.stage ≡ first_stage
   pub held : p.held ≡ Nothing
   pub notes : p.notes ≡ no_notes
   pub shelled : IsShelled p.kernel.spec
-  pub uses : IsWorkOf (Some p.kernel.spec) (part_work p)
+  pub uses : IsWorkOf (Some p.kernel.spec) (shell_work p)
 
 -- the notes of a view that a prepare leaves, and of its answer
 abbrev pub with_view : Picture → Status → Notes → Notes
-with_view w s n = record n { view = Some (port_flags w); answer = Some (Prepared s); acted = false }
+with_view w s n =
+    record n { view = Some (all_port_flags w); answer = Some (Prepared s); acted = false }
 
 -- What was made is pushed, and then the turn is taken that is due. The view has the ports of the
 -- spec.
-pub record Passes (p : ShellPart) (v : Picture) (n : RowCount) (q : ShellPart) (w : Picture)
+pub record Passes (p : LoadedShell) (v : Picture) (n : RowCount) (q : LoadedShell) (w : Picture)
     (m : RowCount) (s : Status)
     : Type 0 where
   pub held : Held
@@ -104,7 +105,7 @@ pub record Passes (p : ShellPart) (v : Picture) (n : RowCount) (q : ShellPart) (
   pub notes : q.notes ≡ with_view w s p.notes
 
 -- a prepare over a view with other ports
-pub record ShutsPart (p : ShellPart) (v : Picture) (n : RowCount) (q : ShellPart) (w : Picture)
+pub record ShutsShell (p : LoadedShell) (v : Picture) (n : RowCount) (q : LoadedShell) (w : Picture)
     (m : RowCount) (s : Status)
     : Type 0 where
   pub changed : ChangedByCalls v w
@@ -122,7 +123,7 @@ pub record Continues (k : Kind) (x y : KernelState) (h : Held) : Type 0 where
   pub uses : IsWorkOf (Some x.spec) (work_of y (source_of h) (held_unworked h) (held_made h))
 
 -- a prepare: what every box owes, and what a lawful one owes, whatever its reader is
-pub record PartPrepares (k : Kind) (p : ShellPart) (v : Picture) (n : RowCount) (q : ShellPart)
+pub record ShellPrepares (k : Kind) (p : LoadedShell) (v : Picture) (n : RowCount) (q : LoadedShell)
     (w : Picture) (m : RowCount) (s : Status)
     : Type 0 where
   pub continues : Continues k p.kernel q.kernel q.held
@@ -131,15 +132,16 @@ pub record PartPrepares (k : Kind) (p : ShellPart) (v : Picture) (n : RowCount) 
   pub since : m.total + n.since ≡ n.total + m.since
   pub fits : Bool
   pub notes : q.notes ≡ with_view w s (record p.notes { fits = fits })
-  pub lawful : (d : Option ReaderView) → IsRunning (part_seen k d n p)
-      → FollowsKept (part_seen k d n p) v
-      → PreparesLawfully (part_seen k d n p) v (part_seen k d m q) w s
+  pub lawful : (d : Option ReaderView) → IsRunning (loaded_seen k d n p)
+      → FollowsKept (loaded_seen k d n p) v
+      → PreparesLawfully (loaded_seen k d n p) v (loaded_seen k d m q) w s
 
 -- chunks are moved, as in a prepare of a part with any notes
 abbrev pub AreMoved : Kind → KernelState → Held → Picture → RowCount
     → KernelState → Held → Picture → RowCount → Status → Type 0
 AreMoved k x h v n y j w m s =
-    (notes : Notes) → PartPrepares k (part x h notes) v n (part y j (with_view w s notes)) w m s
+    (notes : Notes) → ShellPrepares k (shell_state x h notes) v n
+    (shell_state y j (with_view w s notes)) w m s
 
 pub record TakesHeld (x : KernelState) (i : ℕ) (t : Table) (new : OwnState)
     (h : Held) : Type 0 where
@@ -160,7 +162,7 @@ WorksHeld x (Made t) new k = ⊥
 WorksHeld x (Unworked i t) new k = TakesHeld x i t new k
 
 -- a work, before which no chunk waits
-pub record PartWorks (k : Kind) (p q : ShellPart) : Type 0 where
+pub record ShellWorks (k : Kind) (p q : LoadedShell) : Type 0 where
   pub continues : Continues k p.kernel q.kernel q.held
   pub works : WorksHeld p.kernel p.held q.kernel.own q.held
   pub notes : q.notes ≡ record p.notes { acted = true }
@@ -171,19 +173,20 @@ with_answer (Ok a) n = record n { answer = Some (Scheduled a); acted = false }
 with_answer (Err f) n = record n { fault = Some f }
 
 -- an answer or a fault is noted, and nothing else is changed
-pub record PartNotes (r : Result Wake WorkFault) (p q : ShellPart) : Type 0 where
+pub record ShellNotes (r : Result Wake WorkFault) (p q : LoadedShell) : Type 0 where
   pub kernel : q.kernel ≡ p.kernel
   pub held : q.held ≡ p.held
   pub notes : q.notes ≡ with_answer r p.notes
 
 -- a fault of a work is kept
-pub record PartFails (f : WorkFault) (p q : ShellPart) : Type 0 where
+pub record ShellFails (f : WorkFault) (p q : LoadedShell) : Type 0 where
   pub kernel : IsLeftOf p.kernel q.kernel
   pub notes : q.notes ≡ record p.notes { fault = Some f }
 
 -- chunks are handed out, those that a collector gathered
-pub record PartGives (k : Kind) (p : ShellPart) (given : List Table) (q : ShellPart) : Type 0 where
-  pub rows : given ≡ handed_out_by k (part_work p)
+pub record ShellGives (k : Kind) (p : LoadedShell) (given : List Table) (q : LoadedShell) : Type
+    0 where
+  pub rows : given ≡ handed_out_by k (shell_work p)
   pub spec : q.kernel.spec ≡ p.kernel.spec
   pub notes : q.notes ≡ p.notes
   pub out : (k ≡ kind.Collect) × (q.kernel.stage.handed_out ≡ true) ⊎ (k ≢ kind.Collect) × (q ≡ p)

@@ -39,18 +39,18 @@ held_option None = Nothing
 held_option (Some t) = held_rows t.rows t
 
 -- whether `work` or `schedule` may be called
-abbrev pub is_due : Option Answer → (acted : Bool) → Bool
-is_due (Some (Prepared status.Ready)) acted = not acted
-is_due (Some (Prepared status.Async)) acted = true
-is_due (Some (Scheduled wake.Ready)) acted = not acted
-is_due (Some (Scheduled wake.Later)) acted = true
-is_due a acted = false
+abbrev pub is_call_due : Option Answer → (acted : Bool) → Bool
+is_call_due (Some (Prepared status.Ready)) acted = not acted
+is_call_due (Some (Prepared status.Async)) acted = true
+is_call_due (Some (Scheduled wake.Ready)) acted = not acted
+is_call_due (Some (Scheduled wake.Later)) acted = true
+is_call_due a acted = false
 
 -- where one of them may be called no chunk waits to be pushed
 abbrev pub may_hold : Option Answer → Bool → Held → Bool
 may_hold a acted Nothing = true
 may_hold a acted (Unworked i c) = true
-may_hold a acted (Made c) = not (is_due a acted)
+may_hold a acted (Made c) = not (is_call_due a acted)
 
 -- so many rows were counted
 pub record CountsRows (rows : ℕ) (old new : RowCount) : Type 0 where
@@ -61,7 +61,7 @@ pub record CountsRows (rows : ℕ) (old new : RowCount) : Type 0 where
 -- ---- what is found at the ports
 
 -- there is room at an output, which isn't finished
-pub record IsFree (v : Picture) (o : ℕ) : Type 0 where
+pub record IsFreeOutput (v : Picture) (o : ℕ) : Type 0 where
   pub in_range : o < out_count v
   pub room : can_push (output_at v o) ≡ true
   pub unfinished : is_out_finished (output_at v o) ≡ false

@@ -1,5 +1,5 @@
 ghost use Rattle.std.specs.Prelude.{◌≡◌};
-ghost use Rattle.proc_shell.specs.Names.{Fails, IfErr, IfOk, IsBegun, IsKernelOf, IsLeftOf, OnOk, WorksHeld, [], held_made, is_wanted, kind_of, may_hold, part, true};
+ghost use Rattle.proc_shell.specs.Names.{Fails, IfErr, IfOk, IsBegun, IsKernelOf, IsLeftOf, OnOk, WorksHeld, [], held_made, is_wanted, kind_of, may_hold, shell_state, true};
 
 use crate::held::{Held, held_of, unworked_of};
 use crate::kernel::Kernel;
@@ -24,7 +24,7 @@ pub struct Loaded<K: Kernel> {
 /// A kernel that was loaded, with nothing held.
 pub fn begun<K: Kernel>(alloc: Global, spec: Spec) -> Result<Loaded<K>, Memory>
     requires { kind_of spec ≡ K.kind_is }
-    ensures { IfOk result (λ l. IsBegun spec (part (K.state l.kernel) l.held l.notes)) }
+    ensures { IfOk result (λ l. IsBegun spec (shell_state (K.state l.kernel) l.held l.notes)) }
 {
     let notes = BoxNotes::new(alloc)?;
     let kernel = K::begin(alloc, spec)?;
@@ -57,12 +57,13 @@ fn held_after_work<K: Kernel>(alloc: Global, kernel: &mut K, held: Held) -> Resu
 
 impl<K: Kernel> Loaded<K> {
     ghost use Rattle.std.specs.Prelude.{◌≡◌};
-    ghost use Rattle.proc_shell.specs.Names.{Err, Fails, IfErr, MaySchedule, MayWork, Ok, OnOk, PartFails, PartGives, PartNotes, PartPrepares, PartWorks, false, part};
+    ghost use Rattle.proc_shell.specs.Names.{Err, Fails, IfErr, MaySchedule, MayWork, Ok, OnOk, ShellFails, ShellGives, ShellNotes, ShellPrepares, ShellWorks, false, shell_state};
 
     /// Prepares it; over a view with other ports than its spec's it shuts down.
     pub fn prepare(&mut self, view: &mut PortView, pulled: &mut PulledRows) -> Status
-        ensures { PartPrepares K.kind_is
-            (part (K.state self.old.kernel) self.old.held self.old.notes) view.old pulled.old (part
+        ensures { ShellPrepares K.kind_is
+            (shell_state (K.state self.old.kernel) self.old.held self.old.notes) view.old pulled.old
+            (shell_state
             (K.state self.new.kernel) self.new.held self.new.notes) view.new pulled.new result }
     {
         if !self.kernel.fits(view.inputs(), view.outputs()) {
@@ -81,10 +82,12 @@ impl<K: Kernel> Loaded<K> {
     pub fn work(&mut self, alloc: Global) -> Result<(), WorkFault>
         requires ready { MayWork self.old.notes.answer }
         requires once { self.old.notes.acted ≡ false }
-        ensures ok { OnOk result (PartWorks K.kind_is (part (K.state self.old.kernel) self.old.held
-            self.old.notes) (part (K.state self.new.kernel) self.new.held self.new.notes)) }
-        ensures fault { IfErr result (λ f. PartFails f (part (K.state self.old.kernel) self.old.held
-            self.old.notes) (part (K.state self.new.kernel) self.new.held self.new.notes)) }
+        ensures ok { OnOk result
+            (ShellWorks K.kind_is (shell_state (K.state self.old.kernel) self.old.held
+            self.old.notes) (shell_state (K.state self.new.kernel) self.new.held self.new.notes)) }
+        ensures fault { IfErr result
+            (λ f. ShellFails f (shell_state (K.state self.old.kernel) self.old.held
+            self.old.notes) (shell_state (K.state self.new.kernel) self.new.held self.new.notes)) }
         ensures fails { IfErr result (Fails (K.state self.old.kernel)) }
     {
         let held = replace(&mut self.held, Held::Nothing);
@@ -100,8 +103,8 @@ impl<K: Kernel> Loaded<K> {
 
     /// Keeps a fault.
     pub fn fail(&mut self, fault: WorkFault) -> WorkFault
-        ensures notes { PartNotes (Err fault) (part (K.state self.old.kernel) self.old.held
-            self.old.notes) (part (K.state self.new.kernel) self.new.held self.new.notes) }
+        ensures notes { ShellNotes (Err fault) (shell_state (K.state self.old.kernel) self.old.held
+            self.old.notes) (shell_state (K.state self.new.kernel) self.new.held self.new.notes) }
         ensures same { result ≡ fault }
     {
         self.notes.note_fault(fault);
@@ -111,8 +114,9 @@ impl<K: Kernel> Loaded<K> {
     /// Keeps what a schedule answers.
     pub fn wake(&mut self, wake: Wake)
         requires { MaySchedule self.old.notes.answer }
-        ensures { PartNotes (Ok wake) (part (K.state self.old.kernel) self.old.held self.old.notes)
-            (part (K.state self.new.kernel) self.new.held self.new.notes) }
+        ensures { ShellNotes (Ok wake)
+            (shell_state (K.state self.old.kernel) self.old.held self.old.notes)
+            (shell_state (K.state self.new.kernel) self.new.held self.new.notes) }
     {
         self.notes.note_wake(wake);
     }
@@ -120,8 +124,9 @@ impl<K: Kernel> Loaded<K> {
     /// Hands out what a collector gathered; none of another kind.
     pub fn hand_out(&mut self, alloc: Global) -> Vec<Chunk>
         requires { (K.state self.old.kernel).stage.handed_out ≡ false }
-        ensures { PartGives K.kind_is (part (K.state self.old.kernel) self.old.held self.old.notes)
-            result.items (part (K.state self.new.kernel) self.new.held self.new.notes) }
+        ensures { ShellGives K.kind_is
+            (shell_state (K.state self.old.kernel) self.old.held self.old.notes)
+            result.items (shell_state (K.state self.new.kernel) self.new.held self.new.notes) }
     {
         if K::kind() != Kind::Collect {
             return Vec::new(alloc);

@@ -1,5 +1,5 @@
 ghost use Rattle.std.specs.Prelude.{◌<◌, ◌≡◌, ◌≤◌, ◌⊎◌};
-ghost use Rattle.proc_shell.specs.Names.{AllOutputsFinished, AreWantedEmpty, AreWantedOver, ChangesInput, ChangesInputs, HasNoRoom, HasOpen, IfSome, IsCrowded, IsFree, IsTrue, IsWanted, IsWantedFull, MayMake, None, Some, asked, false, in_count, out_count, shut_open, true, unasked, ℕ};
+ghost use Rattle.proc_shell.specs.Names.{AllOutputsFinished, AreWantedEmpty, AreWantedOver, ChangesInput, ChangesInputs, HasNoRoom, HasOpen, IfSome, IsFreeOutput, IsOutOfRoom, IsTrue, IsWanted, IsWantedFull, MayMake, None, Some, asked, false, in_count, out_count, shut_open, true, unasked, ℕ};
 
 use crate::kernel::Kernel;
 use port_word::PortView;
@@ -19,7 +19,7 @@ pub(crate) fn is_over(view: &PortView) -> bool
 
 /// The first output that can take a chunk.
 pub(crate) fn free_output(view: &PortView) -> Option<usize>
-    ensures free { IfSome result (λ o. IsFree view.now o) }
+    ensures free { IfSome result (λ o. IsFreeOutput view.now o) }
     ensures none { result ≡ None → HasNoRoom view.now }
 {
     for o in 0..view.outputs() {
@@ -33,7 +33,7 @@ pub(crate) fn free_output(view: &PortView) -> Option<usize>
 /// Whether there is room for what is made, or no output.
 pub(crate) fn may_make(view: &PortView) -> bool
     ensures may { IsTrue result → MayMake view.now }
-    ensures full { result ≡ false → IsCrowded view.now }
+    ensures full { result ≡ false → IsOutOfRoom view.now }
 {
     if view.outputs() == 0 {
         return true;

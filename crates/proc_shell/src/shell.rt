@@ -16,7 +16,7 @@ pub struct Shell<K: Kernel> {
 }
 
 impl<K: Kernel> Model for Shell<K> {
-    ghost use Rattle.proc_shell.specs.Names.{ShellView, codes, option_map, part};
+    ghost use Rattle.proc_shell.specs.Names.{ShellView, codes, option_map, shell_state};
     ghost use Rattle.query_model.specs.contracts.processor_spec.Spec as spec;
 
     ghost Value = { ShellView };
@@ -25,7 +25,7 @@ impl<K: Kernel> Model for Shell<K> {
 
     ghost view = { λ s. record {
       count = s.pulled;
-      loaded = option_map (λ l. part (K.state l.kernel) l.held l.notes) s.loaded;
+      loaded = option_map (λ l. shell_state (K.state l.kernel) l.held l.notes) s.loaded;
     } };
 }
 

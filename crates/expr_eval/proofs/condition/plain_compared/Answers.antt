@@ -1,7 +1,7 @@
 use Rattle.expr_eval.proofs.Imports.{Some, ap, compared, flipped, int_cmp, number_of, passes, plain_of, plain_value, sym, value_of, ◌∙◌, ◌≡◌}
 use Rattle.expr_eval.proofs.Onto.{same_maps, same_value}
 use Rattle.expr_eval.proofs.Operands.{plain_value_of}
-use Rattle.expr_eval.proofs.Comparisons.{turned, plains_compared}
+use Rattle.expr_eval.proofs.Comparisons.{flipped_passes, plains_compared}
 use Rattle.expr_eval.proofs.condition.plain_compared.Goals as goal
 
 pub returns-in_ok-mask-in-None : goal.returns-in_ok-mask-in-None
@@ -10,7 +10,8 @@ returns-in_ok-mask-in-None c =
     e ∙ same_maps (λ row. passes (flipped c.args.op) (compared (value_of c.args.right.now row)
     (plain_value (number_of c.args.n)))) (λ row. passes c.args.op (compared
     (plain_value (number_of c.args.n)) (value_of c.args.right.now row))) c.args.chunk.now.rows
-    (λ row. turned c.args.op (plain_value (number_of c.args.n)) (value_of c.args.right.now row))
+    (λ row. flipped_passes c.args.op (plain_value (number_of c.args.n))
+    (value_of c.args.right.now row))
 
 pub returns-in_ok-mask-in-Some : goal.returns-in_ok-mask-in-Some
 returns-in_ok-mask-in-Some c =
