@@ -1,9 +1,9 @@
 -- What is held of the inputs of a merge, as ends are noted and the first row is looked for.
 use Rattle.std.proofs.lemmas.Grind.{common_steps}
-use Rattle.std.proofs.Common.{◌≡◌, ◌≢◌, ◌⊎◌, ℕ, suc, ◌+◌, ◌<◌, ◌≤◌, ◌-◌, ◌^◌, ◌&&◌, drop, min, Bool, true, false, List, [], ◌∷◌, length, get_or, not, Option, Some, None, refl, sym, ap, subst, ◌∙◌, arith, inl, inr}
-use Rattle.sort_procs.proofs.Imports.{All, GoesFirst, HasRows, Head, IsBeforeNone, IsRun, IsRunBefore, IsFirst, IsFirstBut, IsRankAt, Row, SortKey, SortSpec, Table, and_from, and_parts, at, every-append, get_or-drop, goes_by, leb-false, length-drop, next_rows, take_more, cases_lt, comes_before, first_row, get_or_read, head_at, head_of, heads_of, is_lt, is_used, list_all, nat_cmp, nat_cmp_total, no_head, Ordering, not-true, ordering_reverse, ordering_then, row_at, row_cmp, row_cmp_total, rows-ordered}
+use Rattle.std.proofs.Common.{◌≡◌, ◌≢◌, ℕ, suc, ◌+◌, ◌<◌, ◌≤◌, ◌-◌, ◌^◌, ◌&&◌, drop, min, Bool, true, false, List, [], ◌∷◌, length, get_or, not, Option, Some, None, refl, sym, ap, subst, ◌∙◌, arith, inl, inr}
+use Rattle.sort_procs.proofs.Imports.{All, FitsTypes, GoesFirst, HasRows, Head, IsBeforeNone, IsRowRun, IsRunBefore, IsFirstHead, IsFirstBut, IsRank, IsRankAt, Row, SortKey, SortSpec, Table, and_from, and_parts, at, every-append, get_or-drop, goes_by, leb-false, length-drop, next_rows, take_more, cases_lt, comes_before, first_row, get_or_read, head_at, head_of, heads_of, is_lt, is_used, list_all, nat_cmp, no_head, Ordering, not-true, ordering_reverse, ordering_then, row_at, row_cmp, row_cmp_total, rows-ordered}
 use Rattle.std.specs.declared.cmp.Ordering.TheVariants.{Equal, Greater, Less}
-use Rattle.sort_procs.proofs.RankLaws.{AreAlike, alike, nat-less, nat-same, rows-less}
+use Rattle.sort_procs.proofs.RankLaws.{FitOneType, left-same, rank-tells}
 
 -- a head that was read
 pub read-at : (heads : List Head) (i : ℕ) (x : Head) → i < length heads → x ≡ get_or heads i x
@@ -17,39 +17,19 @@ pub ranks_tell : (order : SortSpec) (t u : Table) (i j r s : ℕ) → IsRankAt o
     → IsRankAt order u j s
     → ordering_then (nat_cmp r s) (row_cmp order.keys (row_at t.rows i) (row_at u.rows j))
     ≡ row_cmp order.keys (row_at t.rows i) (row_at u.rows j)
-ranks_tell order t u i j r s h k = by (cases_lt r s) (cases_lt s r)
+ranks_tell order t u i j r s h k =
+    rank-tells t.types order.keys (row_at t.rows i) (row_at u.rows j) r s _ alike h.ranks k.ranks
+    (λ e. sym (left-same t.types order.keys (row_at t.rows i) (row_at u.rows j) r alike h.ranks
+    (subst (IsRank order.keys (row_at u.rows j)) (sym e) k.ranks)))
   where
-    keys : List SortKey
-    keys = order.keys
-
-    a : Row
-    a = row_at t.rows i
-
-    b : Row
-    b = row_at u.rows j
-
-    here : AreAlike keys a b
-    here = alike keys t u i j h.table k.table (k.fits.types_are ∙ sym h.fits.types_are)
-        (subst (λ l. All (λ (key : SortKey). key.column < length l) keys) (sym h.fits.types_are)
-        h.fits.keys_within) h.within k.within
-
-    there : AreAlike keys b a
-    there = alike keys u t j i k.table h.table (h.fits.types_are ∙ sym k.fits.types_are)
-        (subst (λ l. All (λ (key : SortKey). key.column < length l) keys) (sym k.fits.types_are)
-        k.fits.keys_within) k.within h.within
-
-    by : (r < s) ⊎ (s ≤ r) → (s < r) ⊎ (r ≤ s)
-        → ordering_then (nat_cmp r s) (row_cmp keys a b) ≡ row_cmp keys a b
-    by (inl lt) _ = rw (nat-less r s lt) (sym (rows-less keys a b r s here h.ranks k.ranks lt))
-    by (inr le) (inl lt) =
-        let o = row_cmp_total keys in
-        rw (nat_cmp_total.antisymm r s, nat-less s r lt)
-        (sym (o.antisymm a b
-        ∙ ap ordering_reverse (rows-less keys b a s r there k.ranks h.ranks lt)))
-    by (inr le) (inr ge) =
-        let e : s ≡ r = omega (arith, le, ge) in
-        subst (λ n. ordering_then (nat_cmp r n) (row_cmp keys a b) ≡ row_cmp keys a b) (sym e)
-        (rw (nat-same r) refl)
+    alike : FitOneType t.types order.keys (row_at t.rows i) (row_at u.rows j)
+    alike = record {
+      one = let f = h.table in f i [] h.within;
+      other = subst (λ l. FitsTypes l (row_at u.rows j))
+          (k.fits.types_are ∙ sym h.fits.types_are) (let f = k.table in f j [] k.within);
+      within = subst (λ l. All (λ (key : SortKey). key.column < length l) order.keys)
+          (sym h.fits.types_are) h.fits.keys_within;
+    }
 
 module _ (keys : List SortKey) (heads : List Head) where
   abbrev lt : ℕ → ℕ → Bool
@@ -132,7 +112,7 @@ module _ (keys : List SortKey) (heads : List Head) where
 
   -- the first head goes before the first of the others
   pub goes-first : (but n i : ℕ) (second : Option ℕ) → n ≤ length heads → n ≤ but
-      → IsFirst keys heads but n i → IsFirstBut keys heads i n second
+      → IsFirstHead keys heads but n i → IsFirstBut keys heads i n second
       → GoesFirst keys heads i second
   goes-first but n i second few out f s = record {
     in_range = let l = f.below in omega (arith, few, l);
@@ -141,7 +121,7 @@ module _ (keys : List SortKey) (heads : List Head) where
     behind = λ k is. by k (subst (IsFirstBut keys heads i n) is s);
   }
     where
-      by : (k : ℕ) → IsFirst keys heads i n k → lt k i ≡ false
+      by : (k : ℕ) → IsFirstHead keys heads i n k → lt k i ≡ false
       by k g = f.least k g.below (λ z. let l = g.below in omega (arith, l, out, z)) g.unused
 
 -- ---- the run of a head
@@ -188,7 +168,7 @@ module _ (keys : List SortKey) (h : Head) where
     left : h.place < length h.chunk.rows
     left = leb-false (length h.chunk.rows) h.place unused
 
-    pub run-alone : IsRun keys heads h None room most
+    pub run-alone : IsRowRun keys heads h None room most
     run-alone = record {
       some = omega (arith, is, some, left);
       few = omega (arith, is);
@@ -199,7 +179,7 @@ module _ (keys : List SortKey) (h : Head) where
     }
 
     pub run-before : (k n : ℕ) → IsRunBefore keys h (at heads k) most n
-        → IsRun keys heads h (Some k) room n
+        → IsRowRun keys heads h (Some k) room n
     run-before k n r = record {
       some = r.some;
       few = let f = r.few in omega (arith, is, f);

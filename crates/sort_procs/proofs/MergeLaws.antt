@@ -1,7 +1,7 @@
 -- The clauses of a merge's kernel.
 use Rattle.std.proofs.lemmas.Grind.{common_steps}
 use Rattle.std.proofs.Common.{◌≡◌, Bool, Option, ℕ, suc, ◌+◌, ◌<◌, ◌≤◌, ◌&&◌, not, true, false, List, [], ◌∷◌, ◌++◌, length, take, drop, get_or, set, append_assoc, Some, None, refl, sym, ap, ap₂, subst, ◌∙◌, arith, inl, inr}
-use Rattle.sort_procs.proofs.Imports.{AreBlank, AreHeadsOf, AreMerged, Begins, Head, InputHead, AreRanked, GivesRanks, get_or_past, AreUsedFrom, IsFirst, IsFirstBut, IsMoved, length-take, IsRanked, IsRun, AllByRecursion, IsBeforeNone, every-weaker, drop-drop, take-append-drop, next_rows, row_at, rows-ordered, get_or-set_other, Leaves, Makes, Merges, MergesSome, NotesEnds, Offer, OfferComes, Offers, Picture, Row, SortKey, SortSpec, Table, Takes, WantsMore, and_parts, append-nil, at, cases_lt, chunk_rows, cond_both, drop-cons, drop_all, first_row, get_or-set_same, head_at, head_of, head_rows, heads_of, in_count, is_lt, is_open_at, is_ready, is_ready_head, is_used, le-leb, le-ltb, leb-false, leb-true, length-append, length-drop, length-map, length-set, list_all, list_all-map, lt-leb, lt-ltb, map-set, merging_own, no_head, not-true, or_left, row_cmp, with_chunk, written_back}
+use Rattle.sort_procs.proofs.Imports.{AreBlank, AreHeadsOf, AreMerged, Begins, Head, InputHead, AreRanked, GivesRanks, get_or_past, AreUsedFrom, IsFirstHead, IsFirstBut, IsMoved, length-take, IsRanked, IsRowRun, AllByRecursion, IsBeforeNone, every-weaker, drop-drop, take-append-drop, next_rows, row_at, rows-ordered, get_or-set_other, Leaves, Makes, Merges, MergesSome, NotesEnds, Offer, OfferComes, Offers, Picture, Row, SortKey, SortSpec, Table, Takes, WantsMore, and_parts, append-nil, at, cases_lt, chunk_rows, cond_both, drop-cons, drop_all, first_row, get_or-set_same, head_at, head_of, head_rows, heads_of, in_count, is_lt, is_open_at, is_ready, is_ready_head, is_used, le-leb, le-ltb, leb-false, leb-true, length-append, length-drop, length-map, length-set, list_all, list_all-map, lt-leb, lt-ltb, map-set, merging_own, no_head, not-true, or_left, row_cmp, with_chunk, written_back}
 use Rattle.query_model.specs.declared.processor_spec.Spec.TheVariants as spec
 use Rattle.sort_procs.proofs.HeadLaws.{all-pass, each-passes, head-at, read-at}
 use Rattle.sort_procs.proofs.MergingLaws.{IsLeastBut, merged-none, merged-noted, merged-run, merged-taken, same-heads, set-each}
@@ -71,10 +71,10 @@ begins order heads b = record {
 -- ---- ends are noted
 
 -- what is left in a Vec of which a slice was passed
-pub written : (v : Picture) (old given new : List Head) (len : ℕ) → length old ≡ 32 → given ≡ old
-    → length given ≡ len → NotesEnds v (length given) given new
+pub slice_written_back : (v : Picture) (old given new : List Head) (len : ℕ) → length old ≡ 32
+    → given ≡ old → length given ≡ len → NotesEnds v (length given) given new
     → (take len (new ++ drop (length new) old) ≡ new) × NotesEnds v 32 old new
-written v old given new len count same e h = grind (arith, written_back)
+slice_written_back v old given new len count same e h = grind (arith, written_back)
 
 module _ (order : SortSpec) (v : Picture) (old new : List Head) (h : NotesEnds v 32 old new)
     (count : length old ≡ 32) where
@@ -191,7 +191,8 @@ module _ {order : SortSpec} {old now : List Head} {i n count room : ℕ} {made :
     (are : AreRanked order now) (ready : list_all is_ready now ≡ true)
     (used : AreUsedFrom now count) (below : i < count) (few : count ≤ length now)
     (others : IsFirstBut order.keys now i count second)
-    (run : IsRun order.keys now (at now i) second room n) (moved : IsMoved order n (at now i) next)
+    (run : IsRowRun order.keys now (at now i) second room n)
+    (moved : IsMoved order n (at now i) next)
   where
     abbrev later : List Head
     later = set now i next
@@ -354,8 +355,8 @@ pub run-made : {order : SortSpec} {old now : List Head} {i n count room : ℕ}
     {made rows : List Row} {second : Option ℕ} {u x next : Head} → Merges order.keys old now made
     → AreRanked order now → list_all is_ready now ≡ true → AreUsedFrom now count
     → count ≤ length now
-    → IsFirst order.keys now count count i → IsFirstBut order.keys now i count second
-    → IsRun order.keys now (at now i) second room n → u ≡ get_or now i u → x ≡ get_or now i x
+    → IsFirstHead order.keys now count count i → IsFirstBut order.keys now i count second
+    → IsRowRun order.keys now (at now i) second room n → u ≡ get_or now i u → x ≡ get_or now i x
     → rows ≡ made ++ next_rows (get_or now i u) n → IsMoved order n (get_or now i x) next
     → IsRunMade order old (set now i next) count n room second made rows
 run-made {order} {old} {now} {i} {n} {count} {room} {made} {rows} {second} {u} {x} {next} h are

@@ -1,7 +1,7 @@
 -- What a merge has made, as chunks are taken, ends noted and first rows made.
 use Rattle.std.proofs.Common.{◌≡◌, ◌≢◌, ℕ, zero, suc, ◌<◌, ◌||◌, nat_lt, Bool, true, false, List, [], ◌∷◌, ◌++◌, length, get_or, set, append_assoc, refl, sym, ap, ap₂, subst, ◌∙◌, arith, inl, inr, IsPermutation, IsSorted}
 use Rattle.sort_procs.proofs.Imports.{AllByRecursion, AreInputsSorted, AreMerged, Contains, Contains-append_left, Contains-append_right, InOrder, InputHead, IsBeforeNone, IsPermutation-append_comm, IsPermutation-append_left, IsPermutation-append_right, IsPermutation-middle, IsPermutation-trans, Lists, Row, SortKey, Table, all-more, cases_eq, chunk-elsewhere, chunk-here, chunk_rows, every-append, every-back, every-contains, every-front, every-none, every-permuted, every-weaker, get_or-set_other, get_or-set_same, head_at, head_rows, is_lt, no-rows, no_lists, one-more, append-nil, length-set, lt-ltb, or_right, set-get_or, set-set, order-back, order-cross, order-from_sorted, order-front, order-joined, row_cmp, rows-ordered, sorted-from_order, with_chunk}
-use Rattle.proc_api.specs.Made.{AreLast, HeldBack, is_ready_head, no_head}
+use Rattle.proc_api.specs.kinds.MergeSorted.{AreLast, HeldBack, is_ready_head, no_input_head}
 
 -- more rows behind those that are held of one input
 moved : (m f b t : List Row) → IsPermutation ((m ++ (f ++ b)) ++ t) (m ++ (f ++ (t ++ b)))
@@ -81,7 +81,7 @@ module _ (keys : List SortKey) where
   -- ---- a chunk is taken
 
   module _ (heads : List InputHead) (worked : Lists) (made : List Row) (i : ℕ) (t : Table)
-      (count : length heads ≡ 32) (within : i < 32) (used : head_at heads i ≡ no_head)
+      (count : length heads ≡ 32) (within : i < 32) (used : head_at heads i ≡ no_input_head)
       (h : AreMerged keys heads worked made) where
     abbrev new : InputHead
     new = record { rows = t.rows; ended = false }
@@ -147,7 +147,7 @@ module _ (keys : List SortKey) where
           (sym old-rows)
           (subst (λ l. IsPermutation ((made ++ (held.front ++ held.back)) ++ t.rows) (made ++ l))
           (sym held.new_are) (moved made held.front held.back t.rows))));
-      heads_are = set-each heads i new no_head
+      heads_are = set-each heads i new no_input_head
           (λ j n. j < 32 → AreLast n.rows (chunk_rows (more j))) at-i
           (λ less. record { front = chunk_rows (worked i); is = here })
           (λ j ne less. subst (AreLast (head_at heads j).rows) (sym (there j ne))
@@ -160,7 +160,7 @@ module _ (keys : List SortKey) where
           (every-append P held.front (t.rows ++ held.back) (every-front P held.front held.back old)
           (every-append P t.rows held.back (none-before s)
           (every-back P held.front held.back old)));
-      held_back = λ some. set-each heads i new no_head
+      held_back = λ some. set-each heads i new no_input_head
           (λ j n. j < 32 → HeldBack keys n (chunk_rows (more j)) made) at-i
           (λ less. elim (h.held_back some i within) [
             | inl ended ↦ absurd (let c : false ≡ true = ap (λ (n : InputHead). n.ended) (sym used)
@@ -290,7 +290,7 @@ module _ (keys : List SortKey) where
           (subst (IsPermutation (made ++ head_rows heads))
           (sym (append_assoc made (x ∷ []) (head_rows left)))
           (IsPermutation-append_right made _ _ one-out));
-      heads_are = set-each heads i behind-it no_head
+      heads_are = set-each heads i behind-it no_input_head
           (λ j n. j < 32 → AreLast n.rows (chunk_rows (worked j))) there-i
           (λ less. let a = h.heads_are i within in record {
             front = a.front ++ x ∷ [];
@@ -313,7 +313,8 @@ module _ (keys : List SortKey) where
     }
       where
         same-end : (j : ℕ) → (head_at left j).ended ≡ (head_at heads j).ended
-        same-end = set-each heads i behind-it no_head (λ j n. n.ended ≡ (head_at heads j).ended)
+        same-end = set-each heads i behind-it no_input_head
+            (λ j n. n.ended ≡ (head_at heads j).ended)
             there-i (sym (ap (λ (n : InputHead). n.ended) first)) (λ j ne. refl)
 
         by-head : (j : ℕ) → j < 32 → (rows : List Row) (b : Bool) → (head_at heads j).rows ≡ rows
@@ -352,14 +353,15 @@ module _ (keys : List SortKey) where
     merged-run [] heads made count is least ready h =
         subst (AreMerged keys (set heads i (holding rest)) worked) (sym (append-nil made))
         (subst (λ l. AreMerged keys l worked made)
-        (sym (subst (λ n. set heads i n ≡ heads) is (set-get_or heads i no_head))) h)
+        (sym (subst (λ n. set heads i n ≡ heads) is (set-get_or heads i no_input_head))) h)
     merged-run (x ∷ run) heads made count is least ready h =
         subst (AreMerged keys (set heads i (holding rest)) worked) (append_assoc made (x ∷ []) run)
         (subst (λ l. AreMerged keys l worked ((made ++ x ∷ []) ++ run))
         (set-set heads i (holding (run ++ rest)) (holding rest))
         (merged-run run (set heads i (holding (run ++ rest))) (made ++ x ∷ [])
         (length-set heads i (holding (run ++ rest)) ∙ count)
-        (get_or-set_same heads i (holding (run ++ rest)) no_head (omega (arith, within, count)))
+        (get_or-set_same heads i (holding (run ++ rest)) no_input_head
+        (omega (arith, within, count)))
         (every-weaker (IsLeastBut i heads) (IsLeastBut i (set heads i (holding (run ++ rest))))
         (λ y b j less ne f more z. b j less ne f more (ap (λ (n : InputHead). n.rows)
         (sym (other j ne)) ∙ z)) run least.1)
@@ -380,4 +382,4 @@ module _ (keys : List SortKey) where
       where
         other : (j : ℕ) → j ≢ i
             → head_at (set heads i (holding (run ++ rest))) j ≡ head_at heads j
-        other j ne = get_or-set_other heads i j (holding (run ++ rest)) no_head ne
+        other j ne = get_or-set_other heads i j (holding (run ++ rest)) no_input_head ne

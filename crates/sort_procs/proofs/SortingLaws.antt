@@ -1,6 +1,7 @@
 -- A sort gathers the rows of its chunks, and then makes them in order.
-use Rattle.sort_procs.proofs.Imports.{AgreeOnKey, All, AllByRecursion, AreKeysWithin, AreSorted, IsPermutation-append_right, IsPermutation-sym, IsPermutation-trans, IsSortOf, Makes, Offer, OfferComes, Offers, OwnState, Picture, PutsInOrder, Ranked, Row, SortKey, SortSpec, SortsPlaces, Table, WantsMore, append-nil, chunk_rows, drop-drop, every-permuted, every-turned, in_count, input_at, is_in_finished, is_lt, length-append, length-drop, length-map, length-take, length_permutation, lt-ltb, ltb-true, makes-nothing, map-append, or_right, order-cross, order-from_sorted, order-front, order-joined, ordered, ordered-order, ordered-same, row_at, row_cmp, rows-ordered, rows_at, rows_left, sorted-from_order, sorting_own, take-append-drop}
-use Rattle.std.proofs.Common.{Bool, IsPermutation, IsSorted, IsTrue, List, None, Option, Some, [], ap, append_assoc, arith, drop, false, inl, inr, length, max, min, nat_lt, refl, subst, sym, take, true, ℕ, ◌++◌, ◌+◌, ◌-◌, ◌<◌, ◌||◌, ◌↔◌, ◌∙◌, ◌∷◌, ◌≡◌, ◌⊎◌}
+use Rattle.sort_procs.proofs.Imports.{AgreeOnKey, All, All-drop, AllByRecursion, AreKeysWithin, AreSorted, HasRanks, IsPermutation-append_right, IsPermutation-map, IsPermutation-sym, IsPermutation-trans, IsSortOf, IsTable, Makes, Offer, OfferComes, Offers, OwnState, Picture, PutsFront, PutsInOrder, PutsMore, Ranked, Row, SortKey, SortSpec, Table, WantsMore, any_order, append-nil, chunk_rows, count_up, drop-append_seam, drop-drop, every-permuted, every-turned, idle_own, in_count, input_at, is_in_finished, is_lt, length-append, length-drop, length-map, length-take, length_permutation, lt-ltb, ltb-true, makes-nothing, map-append, or_right, order-cross, order-from_sorted, order-front, order-joined, ordered, ordered-order, ordered-same, ranked_place, row_at, row_cmp, rows-ordered, rows_at, rows_left, sorted-from_order, sorting_own, take-add, take-append-drop}
+use Rattle.std.proofs.Common.{Bool, IsPermutation, IsSorted, IsTrue, List, None, Option, Some, [], ap, append_assoc, arith, drop, false, inl, inr, length, map, max, min, nat_lt, refl, subst, sym, take, true, ℕ, ◌++◌, ◌+◌, ◌-◌, ◌<◌, ◌≤◌, ◌||◌, ◌↔◌, ◌∙◌, ◌∷◌, ◌≡◌, ◌⊎◌}
+use Rattle.sort_procs.proofs.RankLaws.{front-sorted, rows-same}
 use Rattle.query_model.specs.declared.processor_spec.Spec.TheVariants as spec
 
 nothing-of : (rows : List Row) → (0 < length rows → ⊥) → rows ≡ []
@@ -29,9 +30,9 @@ module _ (order : SortSpec) where
             (every-turned (λ x y. lt y x ≡ false) made a (order-cross lt o made a whole))));
       }
 
-  module _ (places : List Ranked) (next : ℕ) (rows : Table) where
+  module _ (places : List Ranked) (next front : ℕ) (rows : Table) where
     abbrev own : Bool → Bool → OwnState
-    own ended sorted = sorting_own keys ended sorted places next rows
+    own ended sorted = sorting_own keys ended sorted places next front rows
 
     -- the end is noted, where the input is finished
     goes-on : (was fin sorted : Bool) → (sorted ≡ true → was ≡ true) → (all made : List Row)
@@ -95,14 +96,52 @@ module _ (order : SortSpec) where
       noted = λ over. z ∙ or_right was fin (at ∙ over 0 (omega (arith, one)) w);
     }
 
-    pub has_left : (sorted : Bool) (n : ℕ) → sorted ≡ false → n ≡ length rows.rows
-        → IsTrue (nat_lt 0 n) ↔ (0 < length (rows_left keys sorted places next rows.rows))
+    -- rows are left, before there are places
+    pub has_left : (ranked : Bool) (n : ℕ) → ranked ≡ false → n ≡ length rows.rows
+        → IsTrue (nat_lt 0 n)
+        ↔ (0 < length (rows_left keys ranked places next front rows.rows))
     has_left true n e count = absurd (cc)
     has_left false n e count =
         let l = length_permutation _ _ (ordered-same lt (rows-ordered keys) rows.rows) in (
           λ t. omega (arith, ltb-true 0 n t, count, l),
           λ some. lt-ltb 0 n (omega (arith, some, count, l)),
         )
+
+    left-length : next ≤ front → front ≤ length places
+        → length (rows_left keys true places next front rows.rows) ≡ length places - next
+    left-length some few =
+        let whole = length-append
+        (rows_at rows.rows (take (front - next) (drop next places)))
+        (any_order keys (rows_at rows.rows (drop front places))) in
+        let a = length-map (take (front - next) (drop next places))
+        (λ (r : Ranked). row_at rows.rows r.place) in
+        let b = length-take (front - next) (drop next places) in
+        let c = length-drop next places in
+        let d = length_permutation _ _
+        (ordered-same lt (rows-ordered keys) (rows_at rows.rows (drop front places))) in
+        let e = length-map (drop front places) (λ (r : Ranked). row_at rows.rows r.place) in
+        let f = length-drop front places in
+        omega (arith, whole, a, b, c, d, e, f, some, few)
+
+    -- the same once there are places
+    pub has_ranked : (ranked : Bool) (n : ℕ) → ranked ≡ true → n ≡ length places → next ≤ front
+        → front ≤ length places
+        → IsTrue (nat_lt next n)
+        ↔ (0 < length (rows_left keys ranked places next front rows.rows))
+    has_ranked false n e count some few = absurd (cc)
+    has_ranked true n e count some few =
+        let l = left-length some few in (
+          λ t. omega (arith, ltb-true next n t, count, l),
+          λ left. lt-ltb next n (omega (arith, left, count, l)),
+        )
+
+    -- where each place of the front was reached, and the front is all
+    pub none-left : (ended ranked : Bool) → ranked ≡ true → next ≤ front → front ≤ length places
+        → next ≡ front → front ≡ length places → (own ended ranked).unmade ≡ []
+    none-left true true e some few reached all =
+        let l = left-length some few in nothing-of _ (λ left. omega (arith, left, l, reached, all))
+    none-left false ranked e some few reached all = refl
+    none-left true false e some few reached all = absurd (cc)
 
     pub none-made : (ended sorted made : Bool)
         → IsTrue made ↔ (0 < length (own ended sorted).unmade) → made ≡ false
@@ -117,12 +156,12 @@ module _ (order : SortSpec) where
     makes-none ended sorted made h e =
         makes-nothing (spec.Sort order) (own ended sorted) (none-made ended sorted made h e)
 
-    pub makes-next : (count : ℕ) (c : Table) → count ≡ min (length places - next) (max order.rows 1)
-        → 0 < count → c.types ≡ order.types
+    pub makes-next : (count : ℕ) (c : Table) → count ≡ min (front - next) (max order.rows 1)
+        → front ≤ length places → 0 < count → c.types ≡ order.types
         → c.rows ≡ rows_at rows.rows (take count (drop next places))
         → Makes (spec.Sort order) (own true true)
-        (sorting_own keys true true places (next + count) rows) (Some c)
-    makes-next count c e some types made = record {
+        (sorting_own keys true true places (next + count) front rows) (Some c)
+    makes-next count c e few some types made = record {
       means = λ x worked outs h. record {
         gathered = λ f. absurd (cc);
         sorted = λ f. subst (IsSortOf keys (chunk_rows (worked 0)))
@@ -145,69 +184,155 @@ module _ (order : SortSpec) where
       ends = λ i n. refl;
     }
       where
+        part : ℕ → List Ranked
+        part n = take (front - n) (drop n places)
+
+        behind : List Row
+        behind = any_order keys (rows_at rows.rows (drop front places))
+
         left : ℕ → List Row
-        left n = rows_at rows.rows (drop n places)
+        left n = rows_at rows.rows (part n) ++ behind
 
         size : length c.rows ≡ count
         size = ap length made ∙ length-map (take count (drop next places))
             (λ (r : Ranked). row_at rows.rows r.place)
             ∙ length-take count (drop next places)
-            ∙ (let l = length-drop next places in omega (arith, l, e))
+            ∙ (let l = length-drop next places in omega (arith, l, e, few))
+
+        parts : part next ≡ take count (drop next places) ++ part (next + count)
+        parts =
+            let more : front - next ≡ count + (front - (next + count)) = omega (arith, e) in
+            ap (λ n. take n (drop next places)) more
+            ∙ take-add count (front - (next + count)) (drop next places)
+            ∙ ap (λ l. take count (drop next places) ++ take (front - (next + count)) l)
+            (drop-drop count next places)
 
         split : left next ≡ c.rows ++ left (next + count)
-        split = sym (ap (λ l. l ++ left (next + count)) made
-            ∙ ap (λ l. rows_at rows.rows (take count (drop next places)) ++ rows_at rows.rows l)
-            (sym (drop-drop count next places))
-            ∙ sym (map-append (λ (r : Ranked). row_at rows.rows r.place)
-            (take count (drop next places)) (drop count (drop next places)))
-            ∙ ap (rows_at rows.rows) (take-append-drop count (drop next places)))
+        split = ap (λ l. rows_at rows.rows l ++ behind) parts
+            ∙ ap (λ l. l ++ behind) (map-append (λ (r : Ranked). row_at rows.rows r.place)
+            (take count (drop next places)) (part (next + count)))
+            ∙ ap (λ l. (l ++ rows_at rows.rows (part (next + count))) ++ behind) (sym made)
+            ∙ append_assoc c.rows (rows_at rows.rows (part (next + count))) behind
 
-  pub puts : (places old : List Ranked) (next : ℕ) (rows : Table) → 0 < length rows.rows
-      → SortsPlaces keys rows.rows places
-      → PutsInOrder keys (sorting_own keys true false old next rows)
-      (sorting_own keys true true places 0 rows)
-  puts places old next rows some h =
-      let o = rows-ordered keys in
-      record {
-        means = λ all made k. record {
-          gathered = λ f. absurd (cc);
-          sorted = λ f. put-behind all made (ordered lt o rows.rows) (rows_at rows.rows places)
-              (k.sorted refl)
-              (IsPermutation-trans _ _ _ (IsPermutation-sym _ _ (ordered-same lt o rows.rows))
-              h.same)
-              h.in_order;
-        };
-        same = λ none. absurd (let l = length_permutation _ _ (ordered-same lt o rows.rows) in
-            let n = ap length none in omega (arith, l, n, some));
-        ended = refl;
-      }
+  -- places that were found leave the rows in any order
+  pub ranks_now : (ended ranked : Bool) (places old : List Ranked) (next front : ℕ) (rows : Table)
+      → ranked ≡ false → map ranked_place places ≡ count_up (length rows.rows)
+      → sorting_own keys ended true places 0 0 rows
+      ≡ sorting_own keys ended ranked old next front rows
+  ranks_now true false places old next front rows e h =
+      rw (rows-same rows places h) refl
+  ranks_now false false places old next front rows e h = refl
+  ranks_now ended true places old next front rows e h = absurd (cc)
 
-  pub puts_now : (ended sorted : Bool) (places old : List Ranked) (next : ℕ) (rows : Table)
-      → sorted ≡ false → 0 < length (sorting_own keys ended sorted old next rows).unmade
-      → SortsPlaces keys rows.rows places
-      → PutsInOrder keys (sorting_own keys ended sorted old next rows)
-      (sorting_own keys ended true places 0 rows)
-  puts_now true false places old next rows e some h =
-      puts places old next rows (let l = length_permutation _ _
-      (ordered-same lt (rows-ordered keys) rows.rows) in omega (arith, some, l)) h
-  puts_now ended sorted places old next rows e some h = grind arith
+  -- rows that are left are put in order
+  put-again : (a b : List Row) → IsPermutation a b → IsSorted (row_cmp keys) b
+      → PutsInOrder keys (record idle_own { unmade = a; gathered = []; ended = true })
+      (record idle_own { unmade = b; gathered = []; ended = true })
+  put-again a b same sorted = record {
+    means = λ all made k. record {
+      gathered = λ f. absurd (cc);
+      sorted = λ f. put-behind all made a b (k.sorted refl) same sorted;
+    };
+    same = λ none. ap (λ l. record idle_own { unmade = l; gathered = []; ended = true })
+        (nothing-of b (λ some. let l = length_permutation _ _ same in
+        let n = ap length none in omega (arith, l, n, some)) ∙ sym none);
+    ended = refl;
+  }
+
+  -- the next front is put in order, where that before was made
+  pub front-put : (ended : Bool) (old put new : List Ranked) (front count : ℕ) (rows : Table)
+      → front ≤ length old → IsTable rows → All (AgreeOnKey rows.types rows.types) keys
+      → All (HasRanks rows keys) old → PutsFront rows keys count (drop front old) put
+      → new ≡ take front old ++ put
+      → PutsInOrder keys (sorting_own keys ended true old front front rows)
+      (sorting_own keys ended true new front (front + count) rows)
+  front-put false old put new front count rows few fit agree ranked h e =
+      record { means = λ all made k. k; same = λ none. refl; ended = refl }
+  front-put true old put new front count rows few fit agree ranked h e =
+      subst (λ l. PutsInOrder keys (record idle_own { unmade = l; gathered = []; ended = true })
+      (sorting_own keys true true new front (front + count) rows)) (sym was)
+      (subst (λ l. PutsInOrder keys
+      (record idle_own { unmade = any_order keys rest; gathered = []; ended = true })
+      (record idle_own { unmade = l; gathered = []; ended = true })) (sym now)
+      (put-again (any_order keys rest) sorted
+      (IsPermutation-trans _ _ _ (IsPermutation-sym _ _ (same rest))
+      (IsPermutation-trans _ _ _ moved
+      (IsPermutation-append_right (rows_at rows.rows (take count put)) behind
+      (any_order keys behind) (same behind))))
+      (front-sorted rows keys count (drop front old) put fit agree
+      (All-drop (HasRanks rows keys) front old ranked) h)))
+    where
+      rest : List Row
+      rest = rows_at rows.rows (drop front old)
+
+      behind : List Row
+      behind = rows_at rows.rows (drop count put)
+
+      sorted : List Row
+      sorted = rows_at rows.rows (take count put) ++ any_order keys behind
+
+      same : (l : List Row) → IsPermutation l (any_order keys l)
+      same l = ordered-same lt (rows-ordered keys) l
+
+      moved : IsPermutation rest (rows_at rows.rows (take count put) ++ behind)
+      moved = subst (IsPermutation rest)
+          (ap (rows_at rows.rows) (sym (take-append-drop count put))
+          ∙ map-append (λ (r : Ranked). row_at rows.rows r.place) (take count put) (drop count put))
+          (IsPermutation-map (λ (r : Ranked). row_at rows.rows r.place) (drop front old) put h.same)
+
+      was : rows_left keys true old front front rows.rows ≡ any_order keys rest
+      was = let none : front - front ≡ 0 = omega arith in
+          ap (λ n. rows_at rows.rows (take n (drop front old)) ++ any_order keys rest) none
+
+      back : drop front new ≡ put
+      back =
+          let long : length (take front old) ≡ front =
+          length-take front old ∙ omega (arith, few) in
+          ap (λ n. drop n new) (sym long) ∙ ap (drop (length (take front old))) e
+          ∙ drop-append_seam (take front old) put
+
+      now : rows_left keys true new front (front + count) rows.rows ≡ sorted
+      now = let more : (front + count) - front ≡ count = omega arith in
+          ap (λ n. rows_at rows.rows (take n (drop front new))
+          ++ any_order keys (rows_at rows.rows (drop (front + count) new))) more
+          ∙ ap (λ l. rows_at rows.rows (take count (drop front new))
+          ++ any_order keys (rows_at rows.rows l)) (sym (drop-drop count front new))
+          ∙ ap (λ l. rows_at rows.rows (take count l)
+          ++ any_order keys (rows_at rows.rows (drop count l))) back
+
+  -- the same of the sort that it is asked of
+  pub extended : (ended ranked : Bool) (old new : List Ranked) (next front count : ℕ)
+      (rows : Table) → ranked ≡ true → front ≤ next → next ≤ front
+      → front ≤ length old → IsTable rows → All (AgreeOnKey rows.types rows.types) keys
+      → All (HasRanks rows keys) old → PutsMore rows keys front count old new
+      → PutsInOrder keys (sorting_own keys ended ranked old next front rows)
+      (sorting_own keys ended ranked new next (front + count) rows)
+  extended ended true old new next front count rows e reached le few fit agree ranked h =
+      let same : front ≡ next = omega (arith, le, reached) in
+      subst (λ n. PutsInOrder keys (sorting_own keys ended true old n front rows)
+      (sorting_own keys ended true new n (front + count) rows)) same
+      (front-put ended old (drop front new) new front count rows few fit agree ranked h.puts
+      (sym (take-append-drop front new) ∙ ap (λ l. l ++ drop front new) h.kept))
+  extended ended false old new next front count rows e reached le few fit agree ranked h =
+      absurd (cc)
 
   -- the keys' columns are there where there are rows
-  pub agree : (ended sorted : Bool) (places : List Ranked) (next : ℕ) (rows : Table)
+  pub agree : (ended sorted : Bool) (places : List Ranked) (next front : ℕ) (rows : Table)
       → rows.types ≡ order.types → (0 < length rows.rows → AreKeysWithin order) → sorted ≡ false
-      → 0 < length (sorting_own keys ended sorted places next rows).unmade
+      → 0 < length (sorting_own keys ended sorted places next front rows).unmade
       → All (AgreeOnKey rows.types rows.types) keys
-  agree ended sorted places next rows typed keyed e some =
+  agree ended sorted places next front rows typed keyed e some =
       grind (arith, length_permutation, ordered-same, rows-ordered)
 
-  pub makes-chunk : (ended sorted : Bool) (places : List Ranked) (next count : ℕ) (rows c : Table)
-      → sorted ≡ true → (sorted ≡ true → ended ≡ true)
-      → count ≡ min (length places - next) (max order.rows 1) → 0 < count → c.types ≡ order.types
-      → c.rows ≡ rows_at rows.rows (take count (drop next places))
-      → Makes (spec.Sort order) (sorting_own keys ended sorted places next rows)
-      (sorting_own keys ended sorted places (next + count) rows) (Some c)
-  makes-chunk true true places next count rows c e f = makes-next places next rows count c
-  makes-chunk ended sorted places next count rows c e f = grind arith
+  pub makes-chunk : (ended ranked : Bool) (places : List Ranked) (next front count : ℕ)
+      (rows c : Table) → ranked ≡ true → (ranked ≡ true → ended ≡ true)
+      → count ≡ min (front - next) (max order.rows 1) → front ≤ length places → 0 < count
+      → c.types ≡ order.types → c.rows ≡ rows_at rows.rows (take count (drop next places))
+      → Makes (spec.Sort order) (sorting_own keys ended ranked places next front rows)
+      (sorting_own keys ended ranked places (next + count) front rows) (Some c)
+  makes-chunk true true places next front count rows c e f =
+      makes-next places next front rows count c
+  makes-chunk ended ranked places next front count rows c e f = grind arith
 
   pub makes-after : (a b c : OwnState) (t : Option Table) → PutsInOrder keys a b
       → Makes (spec.Sort order) b c t → Makes (spec.Sort order) a c t

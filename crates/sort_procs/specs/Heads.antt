@@ -1,7 +1,7 @@
 -- What a merge holds of its inputs.
 use Rattle.chunk_data.specs.Names.{IsTable, Row, Table, row_at, row_cmp}
 use Rattle.proc_api.specs.Boxes.{InputHead}
-use Rattle.proc_api.specs.Made.{IsBeforeNone}
+use Rattle.proc_api.specs.kinds.MergeSorted.{IsBeforeNone}
 use Rattle.proc_api.specs.Names.{FitsOrder}
 use Rattle.proc_api.specs.Prelude.{Picture, SortKey, SortSpec, in_count, input_at, is_in_finished}
 use Rattle.sort_procs.specs.Ranks.{IsRank}
@@ -66,13 +66,13 @@ abbrev pub is_over_at : Picture → ℕ → Bool
 is_over_at v i = leb (in_count v) i || is_in_finished (input_at v i).flags
 
 -- the end is noted, where each row was made and the input is over
-abbrev pub noted : Bool → Head → Head
-noted over h = record h { ended = h.ended || (is_used h && over) }
+abbrev pub with_end_noted : Bool → Head → Head
+with_end_noted over h = record h { ended = h.ended || (is_used h && over) }
 
 -- the ends of the first n inputs are noted
 pub record NotesEnds (v : Picture) (n : ℕ) (old new : List Head) : Type 0 where
   pub count : length new ≡ length old
-  pub below : (i : ℕ) → i < n → at new i ≡ noted (is_over_at v i) (at old i)
+  pub below : (i : ℕ) → i < n → at new i ≡ with_end_noted (is_over_at v i) (at old i)
   pub above : (i : ℕ) → n ≤ i → at new i ≡ at old i
 
 -- no head from the n-th on has rows
@@ -91,7 +91,7 @@ comes_before keys heads i (Some k) =
     is_lt (row_cmp keys (first_row (at heads i)) (first_row (at heads k)))
 
 -- of the first n heads but one, head i has a row, and none has one that comes before its first
-pub record IsFirst (keys : List SortKey) (heads : List Head) (but n i : ℕ) : Type 0 where
+pub record IsFirstHead (keys : List SortKey) (heads : List Head) (but n i : ℕ) : Type 0 where
   pub below : i < n
   pub other : i ≢ but
   pub unused : is_used (at heads i) ≡ false
@@ -101,7 +101,7 @@ pub record IsFirst (keys : List SortKey) (heads : List Head) (but n i : ℕ) : T
 -- the first of the first n heads but one, or none where none of them has rows
 abbrev pub IsFirstBut : List SortKey → List Head → (but n : ℕ) → Option ℕ → Type 0
 IsFirstBut keys heads but n None = (j : ℕ) → j < n → j ≢ but → is_used (at heads j) ≡ true
-IsFirstBut keys heads but n (Some i) = IsFirst keys heads but n i
+IsFirstBut keys heads but n (Some i) = IsFirstHead keys heads but n i
 
 -- head i has rows, and the other, if there is one, has rows and none that comes before its first
 pub record GoesFirst (keys : List SortKey) (heads : List Head) (i : ℕ) (other : Option ℕ)
@@ -130,7 +130,7 @@ pub record IsRunBefore (keys : List SortKey) (h other : Head) (most n : ℕ) : T
       → is_lt (row_cmp keys (row_at h.chunk.rows (h.place + n)) (first_row other)) ≡ false
 
 -- the run of the rows of head h that go before another's, if there is another, and fit the room
-pub record IsRun (keys : List SortKey) (heads : List Head) (h : Head) (other : Option ℕ)
+pub record IsRowRun (keys : List SortKey) (heads : List Head) (h : Head) (other : Option ℕ)
     (room n : ℕ) : Type 0 where
   pub some : 0 < n
   pub few : n ≤ room

@@ -1,4 +1,5 @@
 pub mod Ranks
+pub mod RankProps
 pub mod Sorting
 pub mod Sorted
 pub mod Heads

@@ -1,9 +1,10 @@
 -- The state of a merge, and what it makes of its heads.
 use Rattle.chunk_data.specs.Names.{Row, Table}
-use Rattle.proc_api.specs.Made.{AreMerged, OwnState, idle_own, ready_rows}
+use Rattle.proc_api.specs.Boxes.{OwnState, idle_own}
+use Rattle.proc_api.specs.kinds.MergeSorted.{AreMerged, ready_rows}
 use Rattle.proc_api.specs.Names.{Lists}
 use Rattle.proc_api.specs.Prelude.{SortKey, SortSpec, list_all}
-use Rattle.proc_shell.proofs.Through.{IsInOrder, pushes-in-order, shelled-plain}
+use Rattle.proc_shell.proofs.Through.{pushes-in-order, shelled-plain}
 use Rattle.proc_shell.specs.Kernels.{IsShelled}
 use Rattle.sort_procs.specs.Heads.{at, heads_of, is_used}
 use Rattle.sort_procs.specs.declared.heads.Head.{Head}
@@ -30,17 +31,8 @@ pub record MergesSome (order : SortSpec) (old new : List Head) (t : Table) : Typ
   pub few : length t.rows ≤ max order.rows 1
   pub some : (0 < length t.rows) ⊎ (list_all is_used new ≡ true)
 
-pub merge_order : (order : SortSpec) → IsInOrder (spec.MergeSorted order)
-merge_order order = record {
-  means = λ x own worked made. (own.unmade ≡ ready_rows own.heads) × AreMerged order.keys own.heads
-      worked made;
-  into = λ x own worked outs wait h. h;
-  from = λ x own worked outs wait h. h;
-}
-
 pub merge_shelled : (order : SortSpec) → IsShelled (spec.MergeSorted order)
 merge_shelled order =
     shelled-plain (spec.MergeSorted order) refl (λ growth kept m n had h position. position)
     (λ ins enough growth m n h. h)
-    (pushes-in-order (spec.MergeSorted order) (merge_order order) (λ growth m n h. h))
-    (λ p ins outs uses h. h) (λ p ins outs seen uses h. h)
+    (pushes-in-order (spec.MergeSorted order) refl (λ growth m n h. h))

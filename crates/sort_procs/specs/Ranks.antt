@@ -1,50 +1,88 @@
--- A number for each row that goes before the keys, so that most rows are compared by it alone.
-use Rattle.chunk_data.specs.Names.{Row, row_at, row_cmp, value_at}
+-- Numbers for each row that goes before the keys, so that most rows are compared by them alone.
+use Rattle.chunk_data.specs.Names.{Row, Table, is_text, row_at, row_cmp, type_at, value_at}
+use Rattle.chunk_data.specs.declared.typed_value.ColumnType.{ColumnType}
 use Rattle.query_model.specs.Prelude.{All, Int, Ordering, SortKey, Text, UInt, Value}
 use Rattle.sort_procs.specs.declared.ranks.Ranked.{Ranked}
 use Rattle.std.specs.Ordering.{bool_cmp, is_lt, nat_cmp, ordering_then}
-use Rattle.std.specs.Prelude.{Bool, IsPermutation, IsSortedBy, List, [], cond, leb, length, map, pos, slice_index_or, suc, zero, ℕ, ⊤, ◌*◌, ◌+ℤ◌, ◌+◌, ◌-◌, ◌<◌, ◌^◌, ◌∷◌, ◌≡◌}
+use Rattle.std.specs.Prelude.{Bool, IsPermutation, IsSortedBy, List, [], cond, drop, false, leb, length, map, not, pos, slice_index_or, suc, take, true, zero, ℕ, ⊤, ◌%◌, ◌*◌, ◌+ℤ◌, ◌+◌, ◌-◌, ◌<◌, ◌==◌, ◌^◌, ◌||◌, ◌∷◌, ◌≡◌}
 
--- what the byte before n others counts
-unfoldable pub weight : ℕ → ℕ
-weight zero = 1
-weight (suc n) = 256 * weight n
+-- what a digit before n others counts
+unfoldable pub byte_weight : ℕ → ℕ
+byte_weight zero = 1
+byte_weight (suc n) = 257 * byte_weight n
 
--- the n bytes from place i on as a number, where bytes that aren't there are 0
-unfoldable pub text_rank : (n i : ℕ) → List ℕ → ℕ
-text_rank zero i bytes = 0
-text_rank (suc n) i bytes = weight n * slice_index_or bytes i 0 + text_rank n (suc i) bytes
+-- The first n bytes as digits of which none is 0, and last whether there are more. So a text is
+-- lower than the longer ones that begin with it, and with 0 as the last it is told whole.
+unfoldable pub text_rank : ℕ → List ℕ → ℕ
+text_rank n [] = 0
+text_rank zero (byte ∷ bytes) = 1
+text_rank (suc n) (byte ∷ bytes) = (suc byte * byte_weight n) * 2 + text_rank n bytes
 
--- the n elements from place i on are bytes
-unfoldable pub AreBytes : (n i : ℕ) → List ℕ → Type 0
-AreBytes zero i bytes = ⊤
-AreBytes (suc n) i bytes = (slice_index_or bytes i 0 < 256) × AreBytes n (suc i) bytes
+-- the digit of the byte at a place, if it is there
+abbrev pub digit : List ℕ → ℕ → ℕ
+digit bytes i = slice_index_or (map suc bytes) i 0
+
+-- the first n elements are bytes
+unfoldable pub AreBytes : ℕ → List ℕ → Type 0
+AreBytes n [] = ⊤
+AreBytes zero (byte ∷ bytes) = ⊤
+AreBytes (suc n) (byte ∷ bytes) = (byte < 256) × AreBytes n bytes
 
 -- a number that is lower only where the value comes before
 abbrev pub IsValueRank : Value → ℕ → Type 0
 IsValueRank (Int z) r = pos r ≡ z +ℤ pos (2 ^ 63)
 IsValueRank (UInt n) r = r ≡ n
-IsValueRank (Text bytes) r = (r ≡ text_rank 8 0 bytes) × AreBytes 8 0 bytes
+IsValueRank (Text bytes) r = (r ≡ text_rank 7 bytes) × AreBytes 7 bytes
 
--- the same of a key, which may turn the order round
+-- a rank in the order of a key, which may turn that of the values round
+abbrev pub in_direction : (descending : Bool) → ℕ → ℕ
+in_direction descending r = cond descending (2 ^ 64 - 1 - r) r
+
+-- the same of a key
 pub record IsKeyRank (descending : Bool) (v : Value) (r : ℕ) : Type 0 where
-  pub rank : ℕ
-  pub is : IsValueRank v rank
-  pub within : rank < 2 ^ 64
-  pub turned : r ≡ cond descending (2 ^ 64 - 1 - rank) rank
+  pub is : IsValueRank v (in_direction descending r)
+  pub within : r < 2 ^ 64
 
 -- a row's rank is that of its first key
 abbrev pub IsRank : List SortKey → Row → ℕ → Type 0
 IsRank [] row r = r ≡ 0
 IsRank (key ∷ keys) row r = IsKeyRank key.descending (value_at row key.column) r
 
-abbrev pub place_of : Ranked → ℕ
-place_of r = r.place
+-- whether a value of the type is told whole by its rank
+abbrev pub is_exact_value : ColumnType → ℕ → Bool
+is_exact_value t r = not (is_text t) || (r % 2 == 0)
 
--- one of the rows, with its rank
-pub record HasRank (keys : List SortKey) (rows : List Row) (r : Ranked) : Type 0 where
-  pub within : r.place < length rows
-  pub ranks : IsRank keys (row_at rows r.place) r.rank
+-- whether rows of the same rank r don't differ at the first key
+abbrev pub is_exact : List ColumnType → List SortKey → ℕ → Bool
+is_exact types [] r = false
+is_exact types (key ∷ keys) r =
+    is_exact_value (type_at types key.column) (in_direction key.descending r)
+
+-- the keys whose first has the second rank
+abbrev pub next_keys : List ColumnType → List SortKey → ℕ → List SortKey
+next_keys types keys r = cond (is_exact types keys r) (drop 1 keys) []
+
+-- the keys at which rows of the same rank r may differ
+abbrev pub keys_left : List ColumnType → List SortKey → ℕ → List SortKey
+keys_left types keys r = cond (is_exact types keys r) (drop 1 keys) keys
+
+-- the same of both ranks
+abbrev pub keys_tied : List ColumnType → List SortKey → Ranked → List SortKey
+keys_tied types keys r =
+    cond (is_exact types keys r.first) (keys_left types (drop 1 keys) r.second) keys
+
+abbrev pub ranked_place : Ranked → ℕ
+ranked_place r = r.place
+
+-- one of the rows, with its ranks
+pub record HasRanks (t : Table) (keys : List SortKey) (r : Ranked) : Type 0 where
+  pub within : r.place < length t.rows
+  pub first : IsRank keys (row_at t.rows r.place) r.first
+  pub second : IsRank (next_keys t.types keys r.first) (row_at t.rows r.place) r.second
+
+-- where ranks were found, each is one of a row's
+abbrev pub HaveRanks : (found : Bool) → Table → List SortKey → List Ranked → Type 0
+HaveRanks found t keys ranks = found ≡ true → All (HasRanks t keys) ranks
 
 -- by the keys, and places past the last row behind all others
 abbrev pub place_cmp : List SortKey → List Row → ℕ → ℕ → Ordering
@@ -52,16 +90,29 @@ place_cmp keys rows i j =
     ordering_then (bool_cmp (leb (length rows) i) (leb (length rows) j))
     (row_cmp keys (row_at rows i) (row_at rows j))
 
-abbrev pub ranked_cmp : List SortKey → List Row → Ranked → Ranked → Ordering
-ranked_cmp keys rows a b =
-    ordering_then (nat_cmp a.rank b.rank) (place_cmp keys rows a.place b.place)
+abbrev pub ranked_cmp : Table → List SortKey → Ranked → Ranked → Ordering
+ranked_cmp t keys a b =
+    ordering_then (nat_cmp a.first b.first) (ordering_then (nat_cmp a.second b.second)
+    (place_cmp (keys_tied t.types keys a) t.rows a.place b.place))
 
 -- the rows at the places
 abbrev pub rows_at : List Row → List Ranked → List Row
 rows_at rows ranks = map (λ (r : Ranked). row_at rows r.place) ranks
 
--- each place once, so that the rows there are in order
-pub record SortsPlaces (keys : List SortKey) (rows : List Row) (ranks : List Ranked) : Type 0 where
-  pub within : All (λ (r : Ranked). r.place < length rows) ranks
-  pub same : IsPermutation rows (rows_at rows ranks)
-  pub in_order : IsSortedBy (λ a b. is_lt (row_cmp keys a b)) (rows_at rows ranks)
+-- none of those behind is before one of the front
+abbrev pub IsSplit : Table → List SortKey → (front behind : List Ranked) → Type 0
+IsSplit t keys front behind =
+    All (λ b. All (λ a. is_lt (ranked_cmp t keys b a) ≡ false) front) behind
+
+-- the same ranks, of which the first so many are in order, and none of the others is before them
+pub record PutsFront (t : Table) (keys : List SortKey) (count : ℕ) (old new : List Ranked)
+    : Type 0 where
+  pub same : IsPermutation old new
+  pub sorted : IsSortedBy (λ a b. is_lt (ranked_cmp t keys a b)) (take count new)
+  pub split : IsSplit t keys (take count new) (drop count new)
+
+-- the same from a place on, before which nothing changes
+pub record PutsMore (t : Table) (keys : List SortKey) (from count : ℕ) (old new : List Ranked)
+    : Type 0 where
+  pub kept : take from new ≡ take from old
+  pub puts : PutsFront t keys count (drop from old) (drop from new)

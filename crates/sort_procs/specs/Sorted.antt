@@ -7,5 +7,5 @@ use Rattle.query_model.specs.declared.processor_spec.Spec.TheVariants as spec
 abbrev pub sort_of : Sorting → Spec
 sort_of k = spec.Sort k.order
 
-abbrev pub own_of : Sorting → OwnState
-own_of k = sorting_own k.order.keys k.ended k.sorted k.places.items k.next k.rows
+abbrev pub sorting_own_of : Sorting → OwnState
+sorting_own_of k = sorting_own k.order.keys k.ended k.ranked k.places.items k.next k.front k.rows

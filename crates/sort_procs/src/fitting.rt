@@ -1,5 +1,5 @@
 ghost use Rattle.std.specs.Prelude.{◌≡◌, ◌↔◌, IsTrue};
-ghost use Rattle.proc_api.specs.Keeping.{AreKeysWithin, FitsOrder};
+ghost use Rattle.proc_api.specs.kinds.Sort.{AreKeysWithin, FitsOrder};
 
 use chunk_data::{Chunk, ColumnType};
 use query_model::processor_spec::SortSpec;

@@ -4,7 +4,7 @@ ghost use Rattle.std.specs.Ordering.{is_lt, nat_cmp, ordering_then};
 ghost use Rattle.chunk_data.specs.Names.{IsTable, row_at, row_cmp};
 ghost use Rattle.port_word.specs.Names.{in_count};
 ghost use Rattle.proc_api.specs.Names.{FitsOrder};
-ghost use Rattle.sort_procs.specs.Heads.{AreHeadsOf, AreRanked, AreUsedFrom, at, comes_before, first_row, GivesRanks, goes_by, HasRows, is_over_at, is_ready, is_used, IsFirstBut, IsMoved, IsRankAt, noted, NotesEnds};
+ghost use Rattle.sort_procs.specs.Heads.{AreHeadsOf, AreRanked, AreUsedFrom, at, comes_before, first_row, GivesRanks, goes_by, HasRows, is_over_at, is_ready, is_used, IsFirstBut, IsMoved, IsRankAt, with_end_noted, NotesEnds};
 
 use crate::ranks::rank_of;
 use chunk_data::Chunk;
@@ -62,7 +62,7 @@ fn is_over(view: &PortView, inputs: usize, i: usize) -> bool
 
 // Notes the end of an input that is over, where no row of it is left.
 fn note_end(head: &mut Head, over: bool)
-    ensures { head.new ≡ noted over head.old }
+    ensures { head.new ≡ with_end_noted over head.old }
 {
     if over && head.is_used() {
         head.ended = true;

@@ -1,7 +1,7 @@
 ghost use Rattle.std.specs.Prelude.{◌≡◌, ◌++◌, ◌+◌, ◌<◌, ◌≤◌, ◌^◌, length, true, OnOk, IfOk};
 ghost use Rattle.std.specs.List.{list_all};
-ghost use Rattle.proc_api.specs.Made.{IsBeforeNone};
-ghost use Rattle.sort_procs.specs.Heads.{AreHeadsOf, AreRanked, at, first_row, GoesFirst, IsRankAt, IsRun, IsRunBefore, is_ready, next_rows};
+ghost use Rattle.proc_api.specs.kinds.MergeSorted.{IsBeforeNone};
+ghost use Rattle.sort_procs.specs.Heads.{AreHeadsOf, AreRanked, at, first_row, GoesFirst, IsRankAt, IsRowRun, IsRunBefore, is_ready, next_rows};
 ghost use Rattle.sort_procs.specs.Merging.{MergesSome};
 
 use crate::heads::{Head, first_but, goes_first, heads_in_use, move_head, rank_heads, row_rank};
@@ -54,7 +54,7 @@ fn run_length(
     requires are { AreRanked order.now heads.now }
     requires first { GoesFirst order.now.keys heads.now first second }
     requires room { 0 < room }
-    ensures { IsRun order.now.keys heads.now (at heads.now first) second room result }
+    ensures { IsRowRun order.now.keys heads.now (at heads.now first) second room result }
 {
     let most = room.min(heads[first].chunk.rows() - heads[first].place);
     match second {

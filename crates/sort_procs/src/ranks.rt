@@ -1,38 +1,146 @@
-ghost use Rattle.std.specs.Prelude.{◌≡◌, ◌<◌, ◌^◌, ◌+ℤ◌, pos, length, map, slice_index_or, IfOk};
+ghost use Rattle.std.specs.Prelude.{◌≡◌, ◌<◌, ◌≤◌, ◌+◌, ◌^◌, ◌+ℤ◌, cond, drop, pos, length, map, slice_index_or, take, IfOk, IsPermutation, IsSortedBy, nat_lt};
 ghost use Rattle.std.specs.List.{All};
 ghost use Rattle.chunk_data.specs.Names.{values, AgreeOnKey, IsTable, value_at, row_at};
 ghost use Rattle.chunk_data.specs.declared.typed_value.Value.TheVariants.{Text};
 ghost use Rattle.query_model.specs.Sources.{count_up};
-ghost use Rattle.sort_procs.specs.Ranks.{HasRank, IsKeyRank, IsRank, IsValueRank, place_cmp, place_of, ranked_cmp, rows_at, SortsPlaces};
+ghost use Rattle.sort_procs.specs.Ranks.{digit, HasRanks, is_exact, IsKeyRank, IsRank, IsValueRank, keys_tied, next_keys, in_direction, place_cmp, ranked_place, ranked_cmp, rows_at, IsSplit, PutsFront, PutsMore};
+ghost use Rattle.std.specs.Ordering.{is_lt};
 
-use chunk_data::{Chunk, Column, Memory, PlainSlice, SortKey};
+use chunk_data::{Chunk, Column, ColumnType, Memory, PlainSlice, SortKey};
 use std::alloc::Global;
 use std::cmp::Ordering;
 
-/// A row by its place, with a number that goes before the keys: it is lower only where the row
-/// comes first.
+/// A row by its place, with the ranks of its first two keys, which go before the keys: the first
+/// is lower only where the row comes first, and the second where the first are the same. Where the
+/// first isn't exact the second is 0.
 #[derive(Clone, Copy, PartialEq, Eq)]
 pub(crate) struct Ranked {
-    pub(crate) rank: u64,
+    pub(crate) first: u64,
+    pub(crate) second: u64,
     pub(crate) place: usize,
 }
 
-/// The rows' places in the order of the keys.
-pub(crate) fn places_in_order(
+/// Puts the first of the places from one on in order, about as many as are wanted or more, so that
+/// none behind them is before one of them. It answers how many.
+pub(crate) fn put_more(
     alloc: Global,
     rows: &Chunk,
     keys: &[SortKey],
-) -> Result<Vec<Ranked>, Memory>
-    requires { All (AgreeOnKey rows.now.types rows.now.types) keys.now }
-    ensures { IfOk result (λ v. SortsPlaces keys.now rows.now.rows v.items) }
+    places: &mut Vec<Ranked>,
+    from: usize,
+    wanted: usize,
+) -> usize
+    requires keys { All (AgreeOnKey rows.now.types rows.now.types) keys.now }
+    requires here { from ≤ length places.old.items }
+    ensures few { from + result ≤ length places.old.items }
+    ensures some { result ≡ 0 → from ≡ length places.old.items }
+    ensures puts { PutsMore rows.now keys.now from result places.old.items places.new.items }
 {
-    match ranks_of(alloc, rows, keys) {
-        Ok(mut ranks) => {
-            ranks.sort_unstable_by(|a, b| compare_ranked(rows, keys, *a, *b));
-            Ok(ranks)
+    put_front(alloc, rows, keys, &mut places[from..], wanted)
+}
+
+// Puts the first of the ranks in order, about as many as are wanted or more, so that none of the
+// others is before one of them. It answers how many.
+fn put_front(
+    alloc: Global,
+    rows: &Chunk,
+    keys: &[SortKey],
+    ranks: &mut [Ranked],
+    wanted: usize,
+) -> usize
+    requires { All (AgreeOnKey rows.now.types rows.now.types) keys.now }
+    ensures few { result ≤ length ranks.old }
+    ensures some { result ≡ 0 → length ranks.old ≡ 0 }
+    ensures puts { PutsFront rows.now keys.now result ranks.old ranks.new }
+{
+    let count = split_ranks(alloc, rows, keys, ranks, wanted);
+    sort_ranks(rows, keys, &mut ranks[..count]);
+    count
+}
+
+// Moves ranks to the front, so that none of the others is before one of them, and answers how many.
+// Where they would be fewer than wanted, all are the front.
+fn split_ranks(
+    alloc: Global,
+    rows: &Chunk,
+    keys: &[SortKey],
+    ranks: &mut [Ranked],
+    wanted: usize,
+) -> usize
+    requires { All (AgreeOnKey rows.now.types rows.now.types) keys.now }
+    ensures same { IsPermutation ranks.old ranks.new }
+    ensures few { result ≤ length ranks.old }
+    ensures some { result ≡ 0 → length ranks.old ≡ 0 }
+    ensures split { IsSplit rows.now keys.now (take result ranks.new) (drop result ranks.new) }
+{
+    match pivot_of(alloc, rows, keys, ranks, wanted) {
+        Some(pivot) => {
+            let count = move_front(rows, keys, ranks, pivot);
+            if count > wanted { count } else { ranks.len() }
         }
-        Err(memory) => Err(memory),
+        None => ranks.len(),
     }
+}
+
+// A rank that about twice as many as are wanted are before, by a sample of a thousand. None where
+// these would be nearly all, or there is no memory for a sample.
+fn pivot_of(
+    alloc: Global,
+    rows: &Chunk,
+    keys: &[SortKey],
+    ranks: &[Ranked],
+    wanted: usize,
+) -> Option<Ranked>
+    requires { All (AgreeOnKey rows.now.types rows.now.types) keys.now }
+{
+    let step = ranks.len() / 1024 + 1;
+    let mut sample = Vec::new(alloc);
+    for ranked in ranks.iter().step_by(step) {
+        match sample.push(*ranked) {
+            Ok(()) => {}
+            Err(_) => return None,
+        }
+    }
+    sort_ranks(rows, keys, sample.as_mut_slice());
+    sample
+        .get((wanted / step).saturating_mul(2).saturating_add(8))
+        .copied()
+}
+
+// Moves the ranks that are before the pivot to the front, and answers how many.
+fn move_front(rows: &Chunk, keys: &[SortKey], ranks: &mut [Ranked], pivot: Ranked) -> usize
+    requires { All (AgreeOnKey rows.now.types rows.now.types) keys.now }
+    ensures same { IsPermutation ranks.old ranks.new }
+    ensures few { result ≤ length ranks.old }
+    ensures split { IsSplit rows.now keys.now (take result ranks.new) (drop result ranks.new) }
+{
+    let mut count = 0;
+    for i in 0..ranks.len() {
+        if is_before(rows, keys, ranks, i, pivot) {
+            ranks.swap(i, count);
+            count += 1;
+        }
+    }
+    count
+}
+
+// Whether the rank at a place is before the pivot.
+fn is_before(rows: &Chunk, keys: &[SortKey], ranks: &[Ranked], i: usize, pivot: Ranked) -> bool
+    requires keys { All (AgreeOnKey rows.now.types rows.now.types) keys.now }
+    requires here { i < length ranks.now }
+    ensures { result
+        ≡ is_lt (ranked_cmp rows.now keys.now (slice_index_or ranks.now i pivot) pivot) }
+{
+    compare_ranked(rows, keys, ranks[i], pivot).is_lt()
+}
+
+// Puts the ranks in order.
+fn sort_ranks(rows: &Chunk, keys: &[SortKey], ranks: &mut [Ranked])
+    requires { All (AgreeOnKey rows.now.types rows.now.types) keys.now }
+    ensures same { IsPermutation ranks.old ranks.new }
+    ensures sorted { IsSortedBy (λ a b. is_lt (ranked_cmp rows.now keys.now a b)) ranks.new }
+{
+    ranks.sort_unstable_by(|a, b| compare_ranked(rows, keys, *a, *b));
 }
 
 /// The rows at the places.
@@ -48,20 +156,53 @@ pub(crate) fn gather_ranked(alloc: Global, rows: &Chunk, ranks: &[Ranked]) -> Re
     rows.gather(places.as_slice())
 }
 
-// The rows in their own order, each with its rank.
-fn ranks_of(alloc: Global, rows: &Chunk, keys: &[SortKey]) -> Result<Vec<Ranked>, Memory>
+/// The rows in their own order, each with its ranks.
+pub(crate) fn ranks_of(alloc: Global, rows: &Chunk, keys: &[SortKey]) -> Result<Vec<Ranked>, Memory>
     requires { All (AgreeOnKey rows.now.types rows.now.types) keys.now }
-    ensures places { IfOk result (λ v. map place_of v.items ≡ count_up (length rows.now.rows)) }
-    ensures ranked { IfOk result (λ v. All (HasRank keys.now rows.now.rows) v.items) }
+    ensures places { IfOk result (λ v. map ranked_place v.items ≡ count_up (length rows.now.rows)) }
+    ensures ranked { IfOk result (λ v. All (HasRanks rows.now keys.now) v.items) }
     ensures typed { IsTable rows.now }
 {
     let n = rows.rows();
     let mut ranks = Vec::with_capacity(alloc, n)?;
     for place in 0..n {
-        let rank = rank_of(rows, keys, place);
-        ranks.push(Ranked { rank, place })?;
+        let first = rank_of(rows, keys, place);
+        let second = second_rank(rows, keys, first, place);
+        ranks.push(Ranked {
+            first,
+            second,
+            place,
+        })?;
     }
     Ok(ranks)
+}
+
+// The rank of the row's second key, where that of the first is exact.
+fn second_rank(rows: &Chunk, keys: &[SortKey], first: u64, place: usize) -> u64
+    requires here { place < length rows.now.rows }
+    requires keys { All (AgreeOnKey rows.now.types rows.now.types) keys.now }
+    ensures { IsRank (next_keys rows.now.types keys.now first) (row_at rows.now.rows place) result }
+{
+    if is_exact(rows, keys, first) {
+        rank_of(rows, &keys[1..], place)
+    } else {
+        0
+    }
+}
+
+// Whether rows whose first keys have this rank don't differ there: numbers never do, and texts
+// where they are as short as the rank tells.
+fn is_exact(rows: &Chunk, keys: &[SortKey], rank: u64) -> bool
+    requires { All (AgreeOnKey rows.now.types rows.now.types) keys.now }
+    ensures { result ≡ is_exact rows.now.types keys.now rank }
+{
+    match keys.first() {
+        Some(key) => match rows.column(key.column as usize).kind() {
+            ColumnType::Text => in_direction(key.descending, rank) % 2 == 0,
+            ColumnType::Int64 | ColumnType::UInt64 => true,
+        },
+        None => false,
+    }
 }
 
 /// The rank of the row at a place: that of its first key, which goes before the others.
@@ -76,14 +217,33 @@ pub(crate) fn rank_of(rows: &Chunk, keys: &[SortKey], place: usize) -> u64
     }
 }
 
-// How two rows compare: by their ranks, and where these are the same by the keys.
+// How two rows compare: by their ranks, and where these are the same by the keys of which they
+// don't tell.
 fn compare_ranked(rows: &Chunk, keys: &[SortKey], a: Ranked, b: Ranked) -> Ordering
     requires { All (AgreeOnKey rows.now.types rows.now.types) keys.now }
-    ensures { result ≡ ranked_cmp keys.now rows.now.rows a b }
+    ensures { result ≡ ranked_cmp rows.now keys.now a b }
 {
-    match a.rank.cmp(&b.rank) {
-        Ordering::Equal => compare_places(rows, keys, a.place, b.place),
+    match a.first.cmp(&b.first) {
+        Ordering::Equal => match a.second.cmp(&b.second) {
+            Ordering::Equal => compare_places(rows, tied_keys(rows, keys, a), a.place, b.place),
+            unequal => unequal,
+        },
         unequal => unequal,
+    }
+}
+
+// The keys by which rows with the same ranks may differ.
+fn tied_keys<'a>(rows: &Chunk, keys: &'a [SortKey], ranked: Ranked) -> &'a [SortKey]
+    requires { All (AgreeOnKey rows.now.types rows.now.types) keys.now }
+    ensures tied { result.now ≡ keys_tied rows.now.types keys.now ranked }
+    ensures keys { All (AgreeOnKey rows.now.types rows.now.types) result.now }
+{
+    if !is_exact(rows, keys, ranked.first) {
+        keys
+    } else if is_exact(rows, &keys[1..], ranked.second) {
+        &keys[2..]
+    } else {
+        &keys[1..]
     }
 }
 
@@ -106,7 +266,13 @@ fn rank_at(column: &Column, descending: bool, i: usize) -> u64
     requires { i < length (values column.now) }
     ensures { IsKeyRank descending (value_at (values column.now) i) result }
 {
-    let rank = value_rank(column, i);
+    in_direction(descending, value_rank(column, i))
+}
+
+// The rank in the order of a key, which may turn that of the values round.
+fn in_direction(descending: bool, rank: u64) -> u64
+    ensures { result ≡ in_direction descending rank }
+{
     if descending { u64::MAX - rank } else { rank }
 }
 
@@ -129,22 +295,33 @@ fn int_rank(number: i64) -> u64
     (number as i128 + (1 << 63)) as u64
 }
 
-// The first 8 bytes as a number, of which the first counts most.
-#[tactic(auto, using(crate::proofs::RankLaws::eight_bytes))]
+// The first 7 bytes as a number, of which the first counts most and none is counted lower than a
+// byte 0, and last whether there are more.
+#[tactic(auto, using(crate::proofs::RankLaws::seven_bytes))]
 fn text_rank(bytes: &[u8]) -> u64
     ensures { IsValueRank (Text bytes.now) result }
 {
-    let first = byte_at(bytes, 0) * (1 << 24) + byte_at(bytes, 1) * (1 << 16);
-    let second = byte_at(bytes, 2) * (1 << 8) + byte_at(bytes, 3);
-    let third = byte_at(bytes, 4) * (1 << 24) + byte_at(bytes, 5) * (1 << 16);
-    let fourth = byte_at(bytes, 6) * (1 << 8) + byte_at(bytes, 7);
-    (first + second) * (1 << 32) + (third + fourth)
+    let high = (digit_at(bytes, 0) * 257 + digit_at(bytes, 1)) * 257 + digit_at(bytes, 2);
+    let low = (digit_at(bytes, 3) * 257 + digit_at(bytes, 4)) * 257 + digit_at(bytes, 5);
+    ((high * 16_974_593 + low) * 257 + digit_at(bytes, 6)) * 2 + one_past(bytes, 7)
 }
 
-// The byte at a place, or 0 behind the last.
-fn byte_at(bytes: &[u8], i: usize) -> u64
-    ensures byte { result ≡ slice_index_or bytes.now i 0 }
-    ensures small { result < 256 }
+// 1 where there is a byte at the place, else 0.
+fn one_past(bytes: &[u8], i: usize) -> u64
+    ensures more { result ≡ cond (nat_lt i (length bytes.now)) 1 0 }
+    ensures small { result < 2 }
 {
-    if i < bytes.len() { bytes[i] as u64 } else { 0 }
+    if i < bytes.len() { 1 } else { 0 }
+}
+
+// The byte at a place and one, or 0 behind the last.
+fn digit_at(bytes: &[u8], i: usize) -> u64
+    ensures digit { result ≡ digit bytes.now i }
+    ensures small { result < 257 }
+{
+    if i < bytes.len() {
+        bytes[i] as u64 + 1
+    } else {
+        0
+    }
 }

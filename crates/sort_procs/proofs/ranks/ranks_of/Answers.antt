@@ -5,7 +5,7 @@ use Rattle.sort_procs.proofs.ranks.ranks_of.Goals as goal
 
 pub loop-place-init : goal.loop-place-init
 loop-place-init c =
-    let r = ranks-none c.args.keys.now c.args.rows.now.rows c.in_ok-ranks.ranks.items
+    let r = ranks-none c.args.rows.now c.args.keys.now c.in_ok-ranks.ranks.items
     c.in_ok-ranks.ensures.items in
     record { places = r.0; ranked = r.1 }
 

@@ -1,13 +1,14 @@
 use Rattle.std.proofs.Common.{ap, not, sym, ◌∙◌, ◌&&◌}
 use Rattle.sort_procs.proofs.Imports.{Rows, Wants, is_ready, is_used, list_all}
-use Rattle.sort_procs.proofs.MergeLaws.{offers, rows-ready, wants-come, written}
+use Rattle.sort_procs.proofs.MergeLaws.{offers, rows-ready, slice_written_back, wants-come}
 use Rattle.sort_procs.proofs.merge.MergingKernel.offer.Goals as goal
 
 pub returns-then-can_make-clause-offers : goal.returns-then-can_make-clause-offers
 returns-then-can_make-clause-offers c =
     let s = c.args.self.now in
     let new = c.note_ends.new.heads in
-    let w = written c.args.view.now s.heads.items c.as_mut_slice.result.now new s.heads.len
+    let w = slice_written_back c.args.view.now s.heads.items c.as_mut_slice.result.now new
+    s.heads.len
     s.are.count c.as_mut_slice.ensures.value c.as_mut_slice.ensures.len c.note_ends.ensures.ends in
     rw w.0 (offers s.order c.args.view.now s.heads.items new w.1 s.are.count Rows
     c.note_ends.ensures.few
@@ -18,7 +19,8 @@ pub returns-else-can_make-clause-offers : goal.returns-else-can_make-clause-offe
 returns-else-can_make-clause-offers c =
     let s = c.args.self.now in
     let new = c.note_ends.new.heads in
-    let w = written c.args.view.now s.heads.items c.as_mut_slice.result.now new s.heads.len
+    let w = slice_written_back c.args.view.now s.heads.items c.as_mut_slice.result.now new
+    s.heads.len
     s.are.count c.as_mut_slice.ensures.value c.as_mut_slice.ensures.len c.note_ends.ensures.ends in
     rw w.0 (offers s.order c.args.view.now s.heads.items new w.1 s.are.count Wants
     c.note_ends.ensures.few
