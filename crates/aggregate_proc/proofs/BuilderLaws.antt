@@ -1,7 +1,7 @@
 -- The columns that are built for a spec.
-use Rattle.aggregate_proc.proofs.Prelude.{◌≡◌, ℕ, ◌+◌, ◌<◌, ◌≤◌, Bool, true, false, List, [], ◌∷◌, ◌++◌, length, map, take, get_or, refl, sym, ap, ◌∙◌, subst, arith, AreLong-made, rows_of-made, common_steps, All, AreLong, Column, ColumnType, FoldColumn, Folding, GroupSpec, IsTableFor, StateCall, TableView, argument_types, call_foldings, call_types, count_up, default_value, empty_column, folding_of, foldings_for, get_or-map, get_or_default, group_types, key_foldings, kinds_of, length-append, length-map, map-append, map-id, map-map, rows_of, take_all, take_at, types_for, values}
+use Rattle.aggregate_proc.proofs.Imports.{◌≡◌, ℕ, ◌+◌, ◌<◌, ◌≤◌, Bool, true, false, List, [], ◌∷◌, ◌++◌, length, map, take, get_or, refl, sym, ap, ◌∙◌, subst, arith, AreLong-made, rows_of-made, common_steps, All, AreLong, Column, ColumnType, FoldColumn, Folding, GroupSpec, IsGroupTableFor, StateCall, GroupTableView, argument_types, call_foldings, call_types, count_up, default_value, empty_column, folding_of, foldings_for, get_or-map, get_or_default, spec_group_types, key_foldings, fold_types, length-append, length-map, map-append, map-id, map-map, rows_of, take_all, take_at, types_for, values}
 use Rattle.chunk_data.specs.declared.typed_value.ColumnType.TheVariants as type
-use Rattle.aggregate_proc.proofs.ListLaws.{taken}
+use Rattle.aggregate_proc.proofs.ListLaws.{map_of_places_is_take}
 use Rattle.aggregate_proc.specs.declared.fold.Fold.TheVariants as fold
 
 arguments : (calls : List StateCall) → call_types false calls ≡ argument_types calls
@@ -65,8 +65,8 @@ front-keys : (merges : Bool) (g : GroupSpec)
     × (length g.keys ≤ length (types_for merges g))
 front-keys merges g = grind (arith, length-append, types-are, take_at)
 
-pub table-types : (merges : Bool) (g : GroupSpec) (t : TableView) → IsTableFor merges g t
-    → kinds_of t ≡ group_types g
+pub table-types : (merges : Bool) (g : GroupSpec) (t : GroupTableView) → IsGroupTableFor merges g t
+    → fold_types t ≡ spec_group_types g
 table-types merges g t h =
     let front = front-keys merges g in
     sym (map-map (λ (f : Folding). f.kind) folding_of t.columns)
@@ -75,7 +75,7 @@ table-types merges g t h =
     (call_foldings merges (length g.keys) g.calls)
     ∙ ap (λ l. l ++ map (λ (f : Folding). f.kind) (call_foldings merges (length g.keys) g.calls))
     (map-map (λ (f : Folding). f.kind) _ (count_up (length g.keys))
-    ∙ taken (length g.keys) (types_for merges g) type.Text front.1 ∙ front.0)
+    ∙ map_of_places_is_take (length g.keys) (types_for merges g) type.Text front.1 ∙ front.0)
     ∙ ap (λ l. g.keys ++ l) (call-kinds merges (length g.keys) g.calls)
 
 -- the one row of defaults

@@ -1,7 +1,7 @@
 -- The calls of a partial aggregate and of a merge are what is folded, and their groups are those by
 -- the first values.
-use Rattle.aggregate_proc.proofs.Prelude.{AggOp, AllByRecursion, AreCalls, Call, FitsTypes, GroupSpec, IsPermutation-grouped_by, IsPermutation-refl, Row, StateCall, Value, call_foldings, call_of, calls_for, calls_from, combine_of, combined, counted, distinct_rows, given_for, group_types, grouped_by, groups_for, groups_or_default, key_of, length-append, length-map, length_permutation, rows_with, same_row, state_calls, types_for, value_at, value_of, values_at, whole_for, Text, UInt, length-FitsTypes, Bool, IsPermutation, List, [], ap, arith, false, length, map, refl, suc, sym, true, ℕ, ◌%◌, ◌++◌, ◌^◌, ◌∙◌, ◌∷◌, ◌≡◌}
-use Rattle.aggregate_proc.proofs.ListLaws.{filter-same, map-same, taken}
+use Rattle.aggregate_proc.proofs.Imports.{AggOp, AllByRecursion, AreCalls, Call, FitsTypes, GroupSpec, IsPermutation-grouped_by, IsPermutation-refl, Row, StateCall, Value, call_foldings, call_of, calls_for, calls_from, combine_of, combined, counted, distinct_rows, given_for, spec_group_types, grouped_by, groups_for, groups_or_default, key_of, length-append, length-map, length_permutation, rows_with, same_row, state_calls, types_for, value_at, value_of, values_at, whole_for, Text, UInt, length-FitsTypes, Bool, IsPermutation, List, [], ap, arith, false, length, map, refl, suc, sym, true, ℕ, ◌%◌, ◌++◌, ◌^◌, ◌∙◌, ◌∷◌, ◌≡◌}
+use Rattle.aggregate_proc.proofs.ListLaws.{filter-same, map-same, map_of_places_is_take}
 use Rattle.query_model.specs.declared.query.AggOp.TheVariants as agg
 
 -- ---- calls
@@ -55,10 +55,10 @@ pub groups-by : (merges : Bool) (g : GroupSpec) (rows : List Row)
     → AllByRecursion (FitsTypes (types_for merges g)) rows
     → groups_for merges g rows ≡ grouped_by (key_of (length g.keys)) (calls_for merges g) rows
 groups-by false g rows h = grind (arith, grouped-same, values-map)
-groups-by true g rows h = grouped-same (FitsTypes (group_types g)) _ _
-    (λ r p. let a = length-FitsTypes (group_types g) r p in
+groups-by true g rows h = grouped-same (FitsTypes (spec_group_types g)) _ _
+    (λ r p. let a = length-FitsTypes (spec_group_types g) r p in
     let b = length-append g.keys (map (λ (c : StateCall). c.kind) g.calls) in
-    sym (taken (length g.keys) r (Text []) (omega (arith, a, b))))
+    sym (map_of_places_is_take (length g.keys) r (Text []) (omega (arith, a, b))))
     (calls_for true g) rows h
 
 -- ---- what is given of the groups

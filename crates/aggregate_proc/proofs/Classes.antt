@@ -1,5 +1,5 @@
 -- Rows that come one after another into classes by their codes, and what is made of each class.
-use Rattle.aggregate_proc.proofs.Prelude.{◌≡◌, Bool, true, false, not, ◌||◌, cond, List, [], ◌∷◌, ◌++◌, map, filter, fold, refl, sym, ap, ap₂, ◌∙◌, append_assoc, subst, arith, AllByRecursion, Fold, IsSame, Row, Value, any-filter_same, append-nil, distinct, filter-append, folded, insert_key, list_any, map-append, next_folded, places_from, position_or_len, put, put_all, common_steps}
+use Rattle.aggregate_proc.proofs.Imports.{◌≡◌, Bool, true, false, not, ◌||◌, cond, List, [], ◌∷◌, ◌++◌, map, filter, fold, refl, sym, ap, ap₂, ◌∙◌, append_assoc, subst, arith, AllByRecursion, Fold, IsSame, Row, Value, any-filter_same, append-nil, distinct, filter-append, folded, insert_key, list_any, map-append, next_folded, places_from, position_or_len, put_folded, put_all, common_steps}
 use Rattle.aggregate_proc.proofs.FoldLaws.{folded-next}
 use Rattle.aggregate_proc.proofs.ListLaws.{all-filter}
 
@@ -132,8 +132,8 @@ module _ {X : Type 0} (same : X → X → Bool) (is : IsSame same) where
     put-here : (xs : List X) (rows : List Row) (r : Row) → AreApart xs
         → list_any (same (code r)) xs ≡ list_any (λ q. same (code r) (code q)) rows
         → map (λ x. folded f (values_of x (rows ++ r ∷ []))) (insert_key same xs (code r))
-        ≡ put f (map (λ x. folded f (values_of x rows)) xs) (position_or_len (same (code r)) xs)
-        (arg r)
+        ≡ put_folded f (map (λ x. folded f (values_of x rows)) xs)
+        (position_or_len (same (code r)) xs) (arg r)
     put-here [] rows r h e =
         ap (λ l. folded f l ∷ []) (values-more (code r) rows r true (is.itself (code r))
         ∙ ap (λ l. map arg l ++ arg r ∷ [])
@@ -151,14 +151,14 @@ module _ {X : Type 0} (same : X → X → Bool) (is : IsSame same) where
         let other : same (code r) x ≡ false → F' x ≡ F x = λ g. ap (folded f)
         (values-more x rows r false (turned (code r) x ∙ g) ∙ append-nil (values_of x rows)) in
         let more : same (code r) x ≡ false → map F' (insert_key same xs (code r))
-        ≡ put f (map F xs) (position_or_len (same (code r)) xs) (arg r) =
+        ≡ put_folded f (map F xs) (position_or_len (same (code r)) xs) (arg r) =
         λ g. put-here xs rows r h.1 (sym (ap (λ b. b || list_any (same (code r)) xs) g) ∙ e) in
         grind (arith, common_steps)
 
     -- one row more
     class-push : (rows : List Row) (r : Row)
         → class_values (rows ++ r ∷ [])
-        ≡ put f (class_values rows) (position_or_len (same (code r))
+        ≡ put_folded f (class_values rows) (position_or_len (same (code r))
         (distinct same (map code rows))) (arg r)
     class-push rows r =
         ap (λ l. map (λ x. folded f (values_of x (rows ++ r ∷ []))) (distinct same l))

@@ -1,5 +1,5 @@
 -- One value more is folded into what was made of those before it.
-use Rattle.aggregate_proc.proofs.Prelude.{◌≡◌, List, [], ◌∷◌, ◌++◌, refl, sym, ◌∙◌, Combine, Fold, Value, added, chosen, combined, combined-merge, counted, counts_added, earlier, folded, greatest, least, merge_of, next_folded}
+use Rattle.aggregate_proc.proofs.Imports.{◌≡◌, List, [], ◌∷◌, ◌++◌, refl, sym, ◌∙◌, Combine, Fold, Value, added, chosen, combined, combined-merge, counted, counts_added, earlier, folded, greatest, least, merge_of, next_folded}
 use Rattle.aggregate_proc.specs.declared.fold.Fold.TheVariants as fold
 
 pub earlier-first : (v : Value) (vs : List Value) → chosen earlier (v ∷ vs) ≡ v

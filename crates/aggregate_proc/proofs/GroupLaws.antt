@@ -1,5 +1,5 @@
 -- The rows of a group table are the groups of its rows.
-use Rattle.aggregate_proc.proofs.Prelude.{All, AllByRecursion, AreCalls, AreCells, AreLong, Call, Column, ColumnType, FitsColumn, FoldColumn, Folding, GroupsMore, HasKey, HasKeyAt, IsTable, IsTableOf, Row, TableView, append-nil, argument_at, cases_eq, combined, count_up, distinct, distinct_rows, first_of, folded, folded_at, folding_of, foldings_of, get_or-map, group_column, group_keys, grouped_by, insert_key, key_code, key_foldings, key_of, kinds_at, length-append, length-map, length-rows_of, list_any, list_any-append, map-append, map-map, merged_groups, merged_groups_is, places_from, recursion_from_All, row_code, rows_in, rows_of, rows_with, same_code, same_row, same_row_is, value_at, values, with_rows, AreLong-made, rows_of-made, codes-keys, places-keys, every-append, common_steps, Bool, List, [], ap, append_assoc, ap₂, arith, filter, fold, length, map, refl, subst, suc, sym, true, zero, ℕ, ◌++◌, ◌<◌, ◌∙◌, ◌∷◌, ◌≡◌, ◌≤◌, get_or_append_left, nil_from_length}
+use Rattle.aggregate_proc.proofs.Imports.{All, AllByRecursion, AreCalls, AreKeyValues, AreLong, Call, Column, ColumnType, FitsColumn, FoldColumn, Folding, GroupsMore, HasKeyFirst, HasKeyAt, IsGroupTable, IsGroupTableOf, Row, GroupTableView, append-nil, argument_at, cases_eq, combined, count_up, distinct, distinct_rows, first_key_column, folded, folded_at, folding_of, foldings_of, get_or-map, group_column, group_keys, grouped_by, insert_key, key_code, key_foldings, key_of, plain_types_at, length-append, length-map, length-rows_of, list_any, list_any-append, map-append, map-map, merged_groups, merged_groups_is, places_from, recursion_from_All, row_code, group_table_rows, rows_of, rows_with, same_code, same_row, same_row_is, value_at, values, with_rows, AreLong-made, rows_of-made, codes-keys, places-keys, every-append, common_steps, Bool, List, [], ap, append_assoc, ap₂, arith, filter, fold, length, map, refl, subst, suc, sym, true, zero, ℕ, ◌++◌, ◌<◌, ◌∙◌, ◌∷◌, ◌≡◌, ◌≤◌, get_or_append_left, nil_from_length}
 use Rattle.aggregate_proc.proofs.Classes.{any-distinct, class-more, distinct-more, filter-some, list_any-map}
 use Rattle.aggregate_proc.proofs.FoldLaws.{earlier-first}
 use Rattle.aggregate_proc.proofs.ListLaws.{all-distinct, map-same}
@@ -93,7 +93,7 @@ module _ (types : List ColumnType) (n : ℕ) (foldings : List Folding) (calls : 
 
   -- The rows of a table are the groups of its rows.
   pub table-groups : (codes : List (List ℕ)) (columns : List FoldColumn) (rows : List Row)
-      → IsTableOf types n (key_foldings types n ++ foldings) codes columns rows
+      → IsGroupTableOf types n (key_foldings types n ++ foldings) codes columns rows
       → rows_of (length codes) (map (λ (c : FoldColumn). c.values) columns)
       ≡ grouped_by (key_of n) calls rows
   table-groups codes columns rows h =
@@ -110,23 +110,23 @@ module _ (types : List ColumnType) (n : ℕ) (foldings : List Folding) (calls : 
 -- ---- rows that follow
 
 cells-of : (types : List ColumnType) (n : ℕ) (rows : List Row)
-    → AllByRecursion (HasKey types n) rows
-    → AllByRecursion (AreCells (kinds_at types (count_up n))) (map (key_of n) rows)
+    → AllByRecursion (HasKeyFirst types n) rows
+    → AllByRecursion (AreKeyValues (plain_types_at types (count_up n))) (map (key_of n) rows)
 cells-of types n [] h = tt
 cells-of types n (r ∷ rows) h = (h.0, cells-of types n rows h.1)
 
 -- The table of rows, and of a chunk's rows behind them.
 pub table-more : (types : List ColumnType) (n : ℕ) (foldings : List Folding) (codes : List (List ℕ))
     (columns : List FoldColumn) (rows more : List Row)
-    → IsTableOf types n foldings codes columns rows → AllByRecursion (HasKey types n) more
-    → IsTableOf types n foldings (fold (insert_key same_code) codes (map (code_of n) more))
+    → IsGroupTableOf types n foldings codes columns rows → AllByRecursion (HasKeyFirst types n) more
+    → IsGroupTableOf types n foldings (fold (insert_key same_code) codes (map (code_of n) more))
     (map (with_rows (places_from true same_code codes (map (code_of n) more)) more) columns)
     (rows ++ more)
 table-more types n foldings codes columns rows more h k =
     let keys = group_keys n rows in
-    let ts = kinds_at types (count_up n) in
+    let ts = plain_types_at types (count_up n) in
     let ks = map (key_of n) more in
-    let first = all-distinct (AreCells ts) same_row (map (key_of n) rows)
+    let first = all-distinct (AreKeyValues ts) same_row (map (key_of n) rows)
     (cells-of types n rows h.input) in
     let next = cells-of types n more k in
     let es : map (code_of n) more ≡ map key_code ks = sym (map-map key_code (key_of n) more) in
@@ -134,7 +134,7 @@ table-more types n foldings codes columns rows more h k =
     ≡ places_from true same_row keys ks =
     ap₂ (places_from true same_code) h.seen es ∙ places-keys ts true ks next keys first in
     record {
-      input = every-append (HasKey types n) rows more h.input k;
+      input = every-append (HasKeyFirst types n) rows more h.input k;
       seen = ap₂ (λ l m. fold (insert_key same_code) l m) h.seen es
           ∙ codes-keys ts true ks next keys first
           ∙ ap (map key_code) (sym (distinct-more same_row same_row_is (map (key_of n) rows) ks)
@@ -170,7 +170,7 @@ groups-more n calls xs ys more e =
     ∙ ap (λ l. grouped_by (key_of n) calls (ys ++ l)) (append-nil more)
 
 -- rows behind those of a table
-abbrev pub added_to : TableView → List Row → TableView
+abbrev pub added_to : GroupTableView → List Row → GroupTableView
 added_to t more = record t {
   codes = fold (insert_key same_code) t.codes (map (code_of t.keys) more);
   columns =
@@ -178,8 +178,9 @@ added_to t more = record t {
       t.columns;
 }
 
-pub added-table : (t : TableView) (more : List Row) → AllByRecursion (HasKey t.types t.keys) more
-    → IsTable t → IsTable (added_to t more)
+pub added-table : (t : GroupTableView) (more : List Row)
+    → AllByRecursion (HasKeyFirst t.types t.keys) more
+    → IsGroupTable t → IsGroupTable (added_to t more)
 added-table t more k h =
     let new = added_to t more in
     let places = places_from true same_code t.codes (map (code_of t.keys) more) in
@@ -187,14 +188,15 @@ added-table t more k h =
       wide = h.wide;
       fits = all-columns t.types places more t.columns h.fits;
       rows = h.rows ++ more;
-      is = subst (λ fs. IsTableOf t.types t.keys fs new.codes new.columns (h.rows ++ more))
+      is = subst (λ fs. IsGroupTableOf t.types t.keys fs new.codes new.columns (h.rows ++ more))
           (sym (rows-foldings places more t.columns))
           (table-more t.types t.keys
           (map folding_of t.columns) t.codes t.columns h.rows more h.is k);
     }
 
-pub added-groups : (t : TableView) (more : List Row) → AllByRecursion (HasKey t.types t.keys) more
-    → IsTable t → GroupsMore t more (added_to t more)
+pub added-groups : (t : GroupTableView) (more : List Row)
+    → AllByRecursion (HasKeyFirst t.types t.keys) more
+    → IsGroupTable t → GroupsMore t more (added_to t more)
 unfolding added-table
 added-groups t more k h =
     let new = added_to t more in
@@ -206,8 +208,8 @@ added-groups t more k h =
       groups = λ calls foldings are good rows e.
           let now = added-table t more k h in
           let before =
-          subst (λ fs. IsTableOf t.types t.keys fs t.codes t.columns h.rows) are h.is in
-          let after = subst (λ fs. IsTableOf t.types t.keys fs new.codes new.columns
+          subst (λ fs. IsGroupTableOf t.types t.keys fs t.codes t.columns h.rows) are h.is in
+          let after = subst (λ fs. IsGroupTableOf t.types t.keys fs new.codes new.columns
           (h.rows ++ more))
           (rows-foldings places more t.columns ∙ are) now.is in
           table-groups t.types t.keys foldings calls good new.codes new.columns
@@ -220,7 +222,7 @@ added-groups t more k h =
 -- ---- the columns of a table
 
 -- each column has a value for each group
-pub columns-long : (t : TableView) → IsTable t
+pub columns-long : (t : GroupTableView) → IsGroupTable t
     → AreLong (length t.codes) (map (λ (c : FoldColumn). c.values) t.columns)
 columns-long t h =
     let keys = group_keys t.keys h.rows in
@@ -230,14 +232,16 @@ columns-long t h =
     ∙ map-map (λ (c : FoldColumn). c.values) (group_column t.keys h.rows) (foldings_of t)))
     (AreLong-made (folded_at t.keys h.rows) (foldings_of t) keys))
 
-pub rows-counted : (t : TableView) → IsTable t → length (rows_in t) ≡ length t.codes
+pub rows-counted : (t : GroupTableView) → IsGroupTable t → length (group_table_rows t)
+    ≡ length t.codes
 rows-counted t h =
     length-rows_of (length t.codes) (map (λ (c : FoldColumn). c.values) t.columns)
     (columns-long t h)
 
 -- a table without rows
-pub empty-table : (t : TableView) → t.keys ≤ length t.types → All (FitsColumn t.types) t.columns
-    → t.codes ≡ [] → All (λ (c : FoldColumn). c.values ≡ []) t.columns → IsTable t
+pub empty-table : (t : GroupTableView) → t.keys ≤ length t.types
+    → All (FitsColumn t.types) t.columns
+    → t.codes ≡ [] → All (λ (c : FoldColumn). c.values ≡ []) t.columns → IsGroupTable t
 unfolding distinct
 empty-table t wide fits none empty = record {
   wide = wide;
@@ -254,8 +258,8 @@ empty-table t wide fits none empty = record {
         (h 0 c (omega arith)))
         (go cs (λ k d lt. h (suc k) d (omega (arith, lt))))
 
-pub no-rows : (t : TableView) → t.codes ≡ [] → IsTable t → rows_in t ≡ []
-no-rows t none h = nil_from_length (rows_in t) (rows-counted t h ∙ ap length none)
+pub no-rows : (t : GroupTableView) → t.codes ≡ [] → IsGroupTable t → group_table_rows t ≡ []
+no-rows t none h = nil_from_length (group_table_rows t) (rows-counted t h ∙ ap length none)
 
 -- ---- what the code makes of a table
 
@@ -265,23 +269,23 @@ places-long codes [] = refl
 places-long codes (e ∷ es) = ap suc (places-long (insert_key same_code codes e) es)
 
 -- what the code leaves is the table of more rows
-pub adds-rows : (t : TableView) (rows : List Row) (kinds : List ColumnType) (cs : List ℕ)
+pub adds-rows : (t : GroupTableView) (rows : List Row) (kinds : List ColumnType) (cs : List ℕ)
     (codes : List (List ℕ)) (now : List FoldColumn) (places : List ℕ)
-    → kinds ≡ t.types → cs ≡ count_up t.keys → All (HasKeyAt kinds cs) rows → IsTable t
+    → kinds ≡ t.types → cs ≡ count_up t.keys → All (HasKeyAt kinds cs) rows → IsGroupTable t
     → places ≡ places_from true same_code t.codes (map (row_code cs) rows)
     → codes ≡ fold (insert_key same_code) t.codes (map (row_code cs) rows)
     → now ≡ map (with_rows places rows) t.columns
-    → IsTable (record t { codes = codes; columns = now })
+    → IsGroupTable (record t { codes = codes; columns = now })
     × GroupsMore t rows (record t { codes = codes; columns = now })
 adds-rows t rows kinds cs codes now places same cols cells h p s n =
-    let k = recursion_from_All (HasKey t.types t.keys) rows
+    let k = recursion_from_All (HasKeyFirst t.types t.keys) rows
     (subst (λ l. All (HasKeyAt t.types l) rows) cols
     (subst (λ ts. All (HasKeyAt ts cs) rows) same cells)) in
     let e : added_to t rows ≡ record t { codes = codes; columns = now } = grind arith in
-    subst (λ (v : TableView). IsTable v × GroupsMore t rows v) e
+    subst (λ (v : GroupTableView). IsGroupTable v × GroupsMore t rows v) e
     (added-table t rows k h, added-groups t rows k h)
 
-pub chunk-long : (t : TableView) (n : ℕ) (columns : List Column) → IsTable t
+pub chunk-long : (t : GroupTableView) (n : ℕ) (columns : List Column) → IsGroupTable t
     → n ≡ length t.codes → map values columns ≡ map (λ (c : FoldColumn). c.values) t.columns
     → AreLong n (map values columns)
 chunk-long t n columns h l e = grind (arith, columns-long)

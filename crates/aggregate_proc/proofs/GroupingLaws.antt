@@ -1,5 +1,5 @@
 -- A grouping keeps what its kind says of the chunks that it worked.
-use Rattle.aggregate_proc.proofs.Prelude.{All, AllByRecursion, AreGrouped, AreInputsOver, ArePortsOf, Begins, ColumnType, FitsTypes, GroupSpec, GroupsMore, HasNotedEnd, IsAtMost, IsNext, IsPermutation-append_left, IsPermutation-same, IsPermutation-trans, IsTableFor, Lists, Makes, MakesTypes, Means, NotesEnd, Offer, OfferComes, Offers, OwnState, Picture, Reading, Row, Table, TableView, Takes, all-more, append-nil, calls_for, chunk_rows, distinct, eqb-true, gathering_own, giving_own, group_types, grouped_by, groups_for, in_count, key_of, kinds_of, length-append, length-drop, length-take, most_rows, no-rows, no_lists, open_for, recursion_from_All, rows-here, rows_in, spec_for, take-append-drop, types_for, unread, whole_for, with_chunk, worked_rows, every-append, EndIsNoted, Spec, Bool, IsPermutation, List, None, Some, [], ap, append_assoc, arith, drop, drop-drop, false, inl, inr, length, max, refl, subst, sym, take, true, ℕ, ◌++◌, ◌+◌, ◌<◌, ◌∙◌, ◌≡◌, ◌≤◌, ◌⊎◌}
+use Rattle.aggregate_proc.proofs.Imports.{All, AllByRecursion, AreGrouped, AreInputsOver, ArePortsOf, Begins, ColumnType, FitsTypes, GroupSpec, GroupsMore, HasNotedEnd, IsAtMost, IsNextOfGroups, IsPermutation-append_left, IsPermutation-same, IsPermutation-trans, IsGroupTableFor, Lists, Makes, MakesTypes, Means, NotesGroupsEnd, Offer, OfferComes, Offers, OwnState, Picture, Reading, Row, Table, GroupTableView, Takes, all-more, append-nil, calls_for, chunk_rows, distinct, eqb-true, gathering_own, giving_own, spec_group_types, grouped_by, groups_for, in_count, key_of, fold_types, length-append, length-drop, length-take, most_rows, no-rows, no_lists, open_for, recursion_from_All, rows-here, group_table_rows, aggregate_spec, take-append-drop, types_for, unread, whole_for, with_chunk, worked_rows, every-append, EndIsNoted, Spec, Bool, IsPermutation, List, None, Some, [], ap, append_assoc, arith, drop, drop-drop, false, inl, inr, length, max, refl, subst, sym, take, true, ℕ, ◌++◌, ◌+◌, ◌<◌, ◌∙◌, ◌≡◌, ◌≤◌, ◌⊎◌}
 use Rattle.aggregate_proc.proofs.CallLaws.{calls-are, given-whole, groups-by}
 use Rattle.proc_shell.specs.declared.kernel.Offer.TheVariants as offer
 
@@ -14,17 +14,19 @@ Made merges g own worked made =
 record IsGroupKind (merges : Bool) (g : GroupSpec) : Type 0 where
   into : (x : Reading) (own : OwnState) (worked outs : Lists) (wait : List Row)
       → Made merges g own worked (chunk_rows (outs 0) ++ wait)
-      → Means x (spec_for merges g) own worked outs wait
+      → Means x (aggregate_spec merges g) own worked outs wait
   from : (x : Reading) (own : OwnState) (worked outs : Lists) (wait : List Row)
-      → Means x (spec_for merges g) own worked outs wait
+      → Means x (aggregate_spec merges g) own worked outs wait
       → Made merges g own worked (chunk_rows (outs 0) ++ wait)
-  noted : (own : OwnState) → own.ended ≡ true → HasNotedEnd (spec_for merges g) own
-  ended : (own : OwnState) → HasNotedEnd (spec_for merges g) own → own.ended ≡ true
-  notes : (own : OwnState) (i : ℕ) → own.ended ≡ true → EndIsNoted (Some (spec_for merges g)) own i
-  noting : (own : OwnState) (i : ℕ) → EndIsNoted (Some (spec_for merges g)) own i → own.ended ≡ true
-  types : (ins : Lists) (types : List ColumnType) → types ≡ group_types g
-      → MakesTypes (Some (spec_for merges g)) ins types
-  size : (n : ℕ) → n ≤ max g.rows 1 → IsAtMost (most_rows (Some (spec_for merges g))) n
+  noted : (own : OwnState) → own.ended ≡ true → HasNotedEnd (aggregate_spec merges g) own
+  ended : (own : OwnState) → HasNotedEnd (aggregate_spec merges g) own → own.ended ≡ true
+  notes : (own : OwnState) (i : ℕ) → own.ended ≡ true
+      → EndIsNoted (Some (aggregate_spec merges g)) own i
+  noting : (own : OwnState) (i : ℕ) → EndIsNoted (Some (aggregate_spec merges g)) own i → own.ended
+      ≡ true
+  types : (ins : Lists) (types : List ColumnType) → types ≡ spec_group_types g
+      → MakesTypes (Some (aggregate_spec merges g)) ins types
+  size : (n : ℕ) → n ≤ max g.rows 1 → IsAtMost (most_rows (Some (aggregate_spec merges g))) n
 
 group-kind : (merges : Bool) (g : GroupSpec) → IsGroupKind merges g
 group-kind false g = grind arith
@@ -48,21 +50,22 @@ none-grouped false g = refl
 none-grouped true g = refl
 
 pub one-input : (merges : Bool) (g : GroupSpec) (inputs outputs : ℕ)
-    → ArePortsOf (Some (spec_for merges g)) None inputs outputs → (inputs ≡ 1) ⊎ (merges ≡ true)
+    → ArePortsOf (Some (aggregate_spec merges g)) None inputs outputs → (inputs ≡ 1)
+    ⊎ (merges ≡ true)
 one-input false g inputs outputs h = inl h.0
 one-input true g inputs outputs h = inr refl
 
-abbrev pub table_own : TableView → OwnState
-table_own t = gathering_own (record { types = kinds_of t; rows = rows_in t })
+abbrev pub table_own : GroupTableView → OwnState
+table_own t = gathering_own (record { types = fold_types t; rows = group_table_rows t })
 
 module _ (merges : Bool) (g : GroupSpec) where
   abbrev s : Spec
-  s = spec_for merges g
+  s = aggregate_spec merges g
 
   is : IsGroupKind merges g
   is = group-kind merges g
 
-  pub begins : (t : TableView) → rows_in t ≡ [] → Begins s s (table_own t)
+  pub begins : (t : GroupTableView) → group_table_rows t ≡ [] → Begins s s (table_own t)
   begins t none = record {
     spec = refl;
     nothing = λ files. is.into (unread files) (table_own t)
@@ -73,7 +76,7 @@ module _ (merges : Bool) (g : GroupSpec) where
             order = [];
             same = IsPermutation-same _ _ (none-worked merges);
             fit = tt;
-            groups_are = append-nil (rows_in t) ∙ none ∙ sym (none-grouped merges g);
+            groups_are = append-nil (group_table_rows t) ∙ none ∙ sym (none-grouped merges g);
           };
           grouped = λ e. absurd (cc);
         });
@@ -82,13 +85,14 @@ module _ (merges : Bool) (g : GroupSpec) where
 
   -- ---- a chunk more
 
-  more-groups : (old new : TableView) (more : List Row) → IsTableFor merges g old
+  more-groups : (old new : GroupTableView) (more : List Row) → IsGroupTableFor merges g old
       → GroupsMore old more new → (rows : List Row)
-      → rows_in old ≡ grouped_by (key_of (length g.keys)) (calls_for merges g) rows
-      → rows_in new ≡ grouped_by (key_of (length g.keys)) (calls_for merges g) (rows ++ more)
+      → group_table_rows old ≡ grouped_by (key_of (length g.keys)) (calls_for merges g) rows
+      → group_table_rows new ≡ grouped_by (key_of (length g.keys)) (calls_for merges g)
+      (rows ++ more)
   more-groups old new more h m = grind (arith, calls-are)
 
-  pub takes : (old new : TableView) (i : ℕ) (t : Table) → IsTableFor merges g old
+  pub takes : (old new : GroupTableView) (i : ℕ) (t : Table) → IsGroupTableFor merges g old
       → open_for merges i ≡ true → i < 32 → t.types ≡ old.types → All (FitsTypes t.types) t.rows
       → GroupsMore old t.rows new → Takes s (table_own old) i t (table_own new) None
   takes old new i t h w lt same fit m = record {
@@ -105,9 +109,10 @@ module _ (merges : Bool) (g : GroupSpec) where
             same = IsPermutation-trans _ _ _ (worked-more merges i t worked w lt)
                 (IsPermutation-append_left t.rows _ _ a.same);
             fit = all_fit;
-            groups_are = append-nil (rows_in new)
+            groups_are = append-nil (group_table_rows new)
                 ∙ more-groups old new t.rows h m a.order
-                (sym (append-nil (rows_in old)) ∙ a.groups_are ∙ groups-by merges g a.order a.fit)
+                (sym (append-nil (group_table_rows old)) ∙ a.groups_are
+                ∙ groups-by merges g a.order a.fit)
                 ∙ sym (groups-by merges g (a.order ++ t.rows) all_fit);
           };
           grouped = λ e. absurd (cc);
@@ -119,16 +124,17 @@ module _ (merges : Bool) (g : GroupSpec) where
 
   -- ---- the end
 
-  goes-on : (old new : OwnState) → NotesEnd merges g old new → (worked : Lists) (made : List Row)
+  goes-on : (old new : OwnState) → NotesGroupsEnd merges g old new
+      → (worked : Lists) (made : List Row)
       → (b : Bool) → old.ended ≡ b → Made merges g old worked made → Made merges g new worked made
   goes-on old new n worked made true e h = grind arith
   goes-on old new n worked made false e h = grind (arith, given-whole)
 
   pub offers : (wants : ℕ → Bool) (v : Picture) (old new : OwnState) (o : Offer) → AreInputsOver v
-      → NotesEnd merges g old new → OfferComes wants o s v new → Offers wants s v old new o
+      → NotesGroupsEnd merges g old new → OfferComes wants o s v new → Offers wants s v old new o
   offers wants v old new o over n comes = grind (arith, is, goes-on)
 
-  pub comes : (v : Picture) (own : OwnState) (o : Offer) → IsNext own o
+  pub comes : (v : Picture) (own : OwnState) (o : Offer) → IsNextOfGroups own o
       → (in_count v ≡ 1) ⊎ (merges ≡ true) → (AreInputsOver v → own.ended ≡ true)
       → OfferComes (open_for merges) o s v own
   comes v own offer.Rows n one ended = n
@@ -138,7 +144,7 @@ module _ (merges : Bool) (g : GroupSpec) where
   -- ---- rows are made
 
   makes : (old rest : List Row) (c : Table) → old ≡ c.rows ++ rest → 0 < length c.rows
-      → length c.rows ≤ max g.rows 1 → c.types ≡ group_types g
+      → length c.rows ≤ max g.rows 1 → c.types ≡ spec_group_types g
       → Makes s (giving_own old) (giving_own rest) (Some c)
   makes old rest c e some most types = record {
     means = λ x worked outs h. is.into x (giving_own rest) worked outs c.rows (record {
@@ -160,7 +166,7 @@ module _ (merges : Bool) (g : GroupSpec) where
   -- so many rows more are made
   pub makes-part : (rows : List Row) (next count : ℕ) (c : Table)
       → c.rows ≡ take count (drop next rows) → 0 < count → next + count ≤ length rows
-      → count ≤ max g.rows 1 → c.types ≡ group_types g
+      → count ≤ max g.rows 1 → c.types ≡ spec_group_types g
       → Makes s (giving_own (drop next rows)) (giving_own (drop (next + count) rows)) (Some c)
   makes-part rows next count c e some within most types =
       let l = ap length e in

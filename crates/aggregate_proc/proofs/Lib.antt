@@ -1,4 +1,4 @@
-mod Prelude
+mod Imports
 mod ListLaws
 mod FoldLaws
 mod NextLaws
@@ -8,4 +8,3 @@ mod GroupLaws
 mod CallLaws
 mod BuilderLaws
 mod GroupingLaws
-mod Cited

@@ -1,6 +1,6 @@
 -- What is true of each element of a list, of its filtered and its distinct elements; the rows of
 -- columns.
-use Rattle.aggregate_proc.proofs.Prelude.{◌≡◌, ◌≤◌, ℕ, zero, suc, take, get_or, Bool, true, false, cond, List, [], ◌∷◌, length, map, filter, refl, ap₂, arith, AllByRecursion, count_up, distinct, map-append, take-suc}
+use Rattle.aggregate_proc.proofs.Imports.{◌≡◌, ◌≤◌, ℕ, zero, suc, take, get_or, Bool, true, false, cond, List, [], ◌∷◌, length, map, filter, refl, ap₂, arith, AllByRecursion, count_up, distinct, map-append, take-suc}
 
 pub all-filter : {A : Type 0} (P : A → Type 0) (p : A → Bool) (xs : List A) → AllByRecursion P xs
     → AllByRecursion P (filter p xs)
@@ -26,8 +26,9 @@ filter-same P p q e [] h = refl
 filter-same P p q e (x ∷ xs) h = grind (arith, filter-same P p q e xs h.1)
 
 -- the first elements, one by one
-pub taken : {A : Type 0} (n : ℕ) (l : List A) (d : A) → n ≤ length l
+pub map_of_places_is_take : {A : Type 0} (n : ℕ) (l : List A) (d : A) → n ≤ length l
     → map (λ c. get_or l c d) (count_up n) ≡ take n l
 unfolding count_up
-taken zero l d le = refl
-taken (suc n) l d le = grind (arith, map-append, take-suc, taken n l d (omega (arith, le)))
+map_of_places_is_take zero l d le = refl
+map_of_places_is_take (suc n) l d le =
+    grind (arith, map-append, take-suc, map_of_places_is_take n l d (omega (arith, le)))

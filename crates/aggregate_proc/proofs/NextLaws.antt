@@ -1,5 +1,5 @@
 -- What the code makes of two numbers is what is folded of them.
-use Rattle.aggregate_proc.proofs.Prelude.{◌≡◌, ◌≢◌, ℕ, ◌+◌, ◌%◌, ◌^◌, ◌<◌, true, List, [], ◌∷◌, refl, ap, arith, ℤ, pos, ◌+ℤ◌, SFits, to_z, of_z, w64, Fold, Value, can_fold, chosen, combined, folded, int_max, int_min, int_wrap, int_wrap_fits, ints, next_folded, to_z-of_z, wrapped, wrapping_add_onto}
+use Rattle.aggregate_proc.proofs.Imports.{◌≡◌, ◌≢◌, ℕ, ◌+◌, ◌%◌, ◌^◌, ◌<◌, true, List, [], ◌∷◌, refl, ap, arith, ℤ, pos, ◌+ℤ◌, SFits, to_z, of_z, w64, Fold, Value, can_fold, chosen, combined, folded, int_max, int_min, int_wrap, int_wrap_fits, ints, next_folded, to_z-of_z, wrapped, wrapping_add_onto}
 use Rattle.chunk_data.specs.declared.typed_value.ColumnType.TheVariants as column
 use Rattle.chunk_data.specs.declared.typed_value.Value.TheVariants as value
 use Rattle.aggregate_proc.specs.declared.fold.Fold.TheVariants as fold

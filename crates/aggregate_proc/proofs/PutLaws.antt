@@ -1,10 +1,10 @@
 -- A loop that puts each value to the group at its place.
-use Rattle.aggregate_proc.proofs.Prelude.{◌≡◌, ℕ, zero, suc, ◌+◌, ◌<◌, ◌≤◌, List, [], ◌∷◌, ◌++◌, length, map, set, get_or, drop, sym, ap, ◌∙◌, arith, Fold, Value, at_drop_more, folded, get_or-map, length-map, next_folded, put, put_all, set-get_or}
+use Rattle.aggregate_proc.proofs.Imports.{◌≡◌, ℕ, zero, suc, ◌+◌, ◌<◌, ◌≤◌, List, [], ◌∷◌, ◌++◌, length, map, set, get_or, drop, sym, ap, ◌∙◌, arith, Fold, Value, at_drop_more, folded, get_or-map, length-map, next_folded, put_folded, put_all, set-get_or}
 
 -- y, which stands at the place, becomes x
 put-set : {A : Type 0} (f : Fold) (h : A → Value) (xs : List A) (p : ℕ) (v : Value) (x y : A)
     → p < length xs → y ≡ get_or xs p y → h x ≡ next_folded f (h y) v
-    → map h (set xs p x) ≡ put f (map h xs) p v
+    → map h (set xs p x) ≡ put_folded f (map h xs) p v
 put-set f h [] p v x y lt at e = absurd (omega (arith, lt))
 put-set f h (z ∷ xs) zero v x y lt at e = grind arith
 put-set f h (z ∷ xs) (suc p) v x y lt at e =
@@ -12,7 +12,7 @@ put-set f h (z ∷ xs) (suc p) v x y lt at e =
 
 put-push : {A : Type 0} (f : Fold) (h : A → Value) (xs : List A) (p : ℕ) (v : Value) (x : A)
     → length xs ≤ p → h x ≡ folded f (v ∷ [])
-    → map h (xs ++ x ∷ []) ≡ put f (map h xs) p v
+    → map h (xs ++ x ∷ []) ≡ put_folded f (map h xs) p v
 put-push f h [] p v x le e = ap (λ w. w ∷ []) e
 put-push f h (y ∷ xs) zero v x le e = absurd (omega (arith, le))
 put-push f h (y ∷ xs) (suc p) v x le e = grind (arith, put-push f h xs p v x (omega (arith, le)) e)
@@ -25,7 +25,8 @@ left_to_put f states ps vs i = put_all f states (drop i ps) (drop i vs)
 module _ {A : Type 0} (f : Fold) (h : A → Value) (xs : List A) (ps : List ℕ) (vs : List Value)
     (i : ℕ) (v : Value) (lt : i < length ps) (less : i < length vs) (at : get_or vs i v ≡ v) where
   one-step : (states : List Value)
-      → left_to_put f states ps vs i ≡ left_to_put f (put f states (get_or ps i 0) v) ps vs (i + 1)
+      → left_to_put f states ps vs i ≡ left_to_put f (put_folded f states (get_or ps i 0) v) ps vs
+      (i + 1)
   one-step states = let e = at_drop_more (λ l. l) ps i 0 lt in
       let g = at_drop_more (λ l. l) vs i v less in grind (arith, e, g)
 

@@ -4,18 +4,18 @@ use Rattle.aggregate_proc.specs.Prelude.{ColumnType, Value}
 use Rattle.chunk_data.specs.Values.{is_text}
 use Rattle.chunk_data.specs.declared.typed_value.ColumnType.TheVariants as type
 use Rattle.chunk_data.specs.declared.typed_value.Value.TheVariants as value
-use Rattle.aggregate_proc.specs.declared.fold.Cells.{Cells}
-use Rattle.aggregate_proc.specs.declared.fold.Cells.TheVariants as cells
+use Rattle.aggregate_proc.specs.declared.fold.FoldValues.{FoldValues}
+use Rattle.aggregate_proc.specs.declared.fold.FoldValues.TheVariants as cells
 use Rattle.aggregate_proc.specs.declared.fold.Fold.{Fold}
 use Rattle.aggregate_proc.specs.declared.fold.Fold.TheVariants as fold
 use Rattle.aggregate_proc.specs.Folds.{FoldColumn}
 
-abbrev pub cell_kind : Cells → ColumnType
-cell_kind (cells.Ints numbers) = type.Int64
-cell_kind (cells.UInts numbers) = type.UInt64
-cell_kind (cells.Texts texts) = type.Text
+abbrev pub cell_type : FoldValues → ColumnType
+cell_type (cells.Ints numbers) = type.Int64
+cell_type (cells.UInts numbers) = type.UInt64
+cell_type (cells.Texts texts) = type.Text
 
-abbrev pub cell_values : Cells → List Value
+abbrev pub cell_values : FoldValues → List Value
 cell_values (cells.Ints numbers) = map value.Int numbers.items
 cell_values (cells.UInts numbers) = map value.UInt numbers.items
 cell_values (cells.Texts texts) = map value.Text texts.items

@@ -26,16 +26,16 @@ next_folded fold.Least s v = combined least (s ∷ combined least (v ∷ []) ∷
 next_folded fold.Greatest s v = combined greatest (s ∷ combined greatest (v ∷ []) ∷ [])
 
 -- a value goes to the group at a place, or to a new group at the end
-abbrev pub put : Fold → List Value → ℕ → Value → List Value
-put op [] p v = folded op (v ∷ []) ∷ []
-put op (s ∷ states) zero v = next_folded op s v ∷ states
-put op (s ∷ states) (suc p) v = s ∷ put op states p v
+abbrev pub put_folded : Fold → List Value → ℕ → Value → List Value
+put_folded op [] p v = folded op (v ∷ []) ∷ []
+put_folded op (s ∷ states) zero v = next_folded op s v ∷ states
+put_folded op (s ∷ states) (suc p) v = s ∷ put_folded op states p v
 
 -- each value goes to the group at its place
 abbrev pub put_all : Fold → List Value → List ℕ → List Value → List Value
 put_all op states [] vs = states
 put_all op states (p ∷ ps) [] = states
-put_all op states (p ∷ ps) (v ∷ vs) = put_all op (put op states p v) ps vs
+put_all op states (p ∷ ps) (v ∷ vs) = put_all op (put_folded op states p v) ps vs
 
 -- a column of a group table: what it makes of the values of which column of the input
 pub record FoldColumn : Type 0 where

@@ -1,6 +1,6 @@
 -- What the processors that group are loaded with and keep: a partial aggregate, and a merge.
 use Rattle.std.specs.Prelude.{◌≡◌, ℕ, suc, ◌<◌, ◌≤◌, ◌==◌, ◌&&◌, ◌||◌, cond, Bool, true, false, List, [], ◌∷◌, ◌++◌, drop, length, map}
-use Rattle.aggregate_proc.specs.Prelude.{AggOp, All, Call, ColumnType, GroupSpec, KernelState, Kind, Lists, Offer, OwnState, Row, Spec, StateCall, Table, all_rows, call_of, calls_from, chunk_rows, combine_of, default_states, group_types, groups_or_default, idle_own, is_count, kernel_of, merged_rows, merged_states, partial_rows, partial_types, state_calls}
+use Rattle.aggregate_proc.specs.Prelude.{AggOp, All, Call, ColumnType, GroupSpec, KernelState, Kind, Lists, Offer, OwnState, Row, Spec, StateCall, Table, all_rows, call_of, calls_from, chunk_rows, combine_of, default_states, groups_or_default, idle_own, is_count, kernel_of, merged_rows, merged_states, partial_rows, partial_types, spec_group_types, state_calls}
 use Rattle.query_model.specs.declared.query.AggOp.TheVariants as agg
 use Rattle.query_model.specs.declared.processor_spec.Kind.TheVariants as kind
 use Rattle.query_model.specs.declared.processor_spec.Spec.TheVariants as spec
@@ -11,21 +11,21 @@ use Rattle.aggregate_proc.specs.declared.phase.Phase.{Phase}
 use Rattle.aggregate_proc.specs.declared.phase.Phase.TheVariants as phase
 use Rattle.aggregate_proc.specs.Cells.{can_fold}
 use Rattle.aggregate_proc.specs.Folds.{FoldColumn}
-use Rattle.aggregate_proc.specs.Tables.{Folding, TableView, foldings_of, key_foldings, kinds_of, rows_in}
+use Rattle.aggregate_proc.specs.Tables.{Folding, GroupTableView, fold_types, foldings_of, group_table_rows, key_foldings}
 
 -- ---- by whether partial groups are merged
 
-abbrev pub spec_for : Bool → GroupSpec → Spec
-spec_for false g = spec.PartialAggregate g
-spec_for true g = spec.MergeAggregate g
+abbrev pub aggregate_spec : Bool → GroupSpec → Spec
+aggregate_spec false g = spec.PartialAggregate g
+aggregate_spec true g = spec.MergeAggregate g
 
-abbrev pub kind_for : Bool → Kind
-kind_for false = kind.PartialAggregate
-kind_for true = kind.MergeAggregate
+abbrev pub aggregate_kind : Bool → Kind
+aggregate_kind false = kind.PartialAggregate
+aggregate_kind true = kind.MergeAggregate
 
 abbrev pub types_for : Bool → GroupSpec → List ColumnType
 types_for false g = partial_types g
-types_for true g = group_types g
+types_for true g = spec_group_types g
 
 abbrev pub fold_of : AggOp → Fold
 fold_of agg.Count = fold.Count
@@ -103,35 +103,35 @@ giving_own rows = record idle_own { unmade = rows; ended = true }
 
 abbrev pub phase_own : Bool → GroupSpec → Phase → OwnState
 phase_own merges g (phase.Gathering t) =
-    gathering_own (record { types = kinds_of t; rows = rows_in t })
-phase_own merges g (phase.Ended t) = giving_own (given_for merges g (rows_in t))
+    gathering_own (record { types = fold_types t; rows = group_table_rows t })
+phase_own merges g (phase.Ended t) = giving_own (given_for merges g (group_table_rows t))
 phase_own merges g (phase.Giving chunk next) = giving_own (drop next chunk.rows)
 phase_own merges g phase.Failed = giving_own []
 
 -- the table is that of the spec
-pub record IsTableFor (merges : Bool) (g : GroupSpec) (t : TableView) : Type 0 where
+pub record IsGroupTableFor (merges : Bool) (g : GroupSpec) (t : GroupTableView) : Type 0 where
   pub types : t.types ≡ types_for merges g
   pub keys : t.keys ≡ length g.keys
   pub foldings : foldings_of t ≡ foldings_for merges g
 
-abbrev pub IsPhaseFor : Bool → GroupSpec → Phase → Type 0
-IsPhaseFor merges g (phase.Gathering t) = IsTableFor merges g t
-IsPhaseFor merges g (phase.Ended t) = IsTableFor merges g t
-IsPhaseFor merges g (phase.Giving chunk next) =
-    (chunk.types ≡ group_types g) × (next ≤ length chunk.rows)
-IsPhaseFor merges g phase.Failed = Unit {0}
+abbrev pub IsGroupPhase : Bool → GroupSpec → Phase → Type 0
+IsGroupPhase merges g (phase.Gathering t) = IsGroupTableFor merges g t
+IsGroupPhase merges g (phase.Ended t) = IsGroupTableFor merges g t
+IsGroupPhase merges g (phase.Giving chunk next) =
+    (chunk.types ≡ spec_group_types g) × (next ≤ length chunk.rows)
+IsGroupPhase merges g phase.Failed = Unit {0}
 
 -- the end is noted: from then on the rows that are given of the groups can be made
-pub record NotesEnd (merges : Bool) (g : GroupSpec) (old new : OwnState) : Type 0 where
+pub record NotesGroupsEnd (merges : Bool) (g : GroupSpec) (old new : OwnState) : Type 0 where
   pub ended : new.ended ≡ true
   pub was : old.ended ≡ true → new ≡ old
   pub ends : old.ended ≡ false → new ≡ giving_own (given_for merges g (chunk_rows old.gathered))
 
 -- what is offered by what can be made
-abbrev pub IsNext : OwnState → Offer → Type 0
-IsNext own offer.Rows = 0 < length own.unmade
-IsNext own offer.Wants = own.unmade ≡ []
-IsNext own _ = ⊥
+abbrev pub IsNextOfGroups : OwnState → Offer → Type 0
+IsNextOfGroups own offer.Rows = 0 < length own.unmade
+IsNextOfGroups own offer.Wants = own.unmade ≡ []
+IsNextOfGroups own _ = ⊥
 
 -- ---- a grouping inside its shell
 
@@ -140,12 +140,13 @@ pub record GroupingView : Type 0 where
   pub phase : Phase
 
 -- without GROUP BY it has no keys, and what it has is that of its spec
-pub record IsGrouping (merges : Bool) (k : GroupingView) : Type 0 where
+pub record IsGroupState (merges : Bool) (k : GroupingView) : Type 0 where
   pub bare : k.group.lone ≡ true → k.group.keys ≡ []
-  pub phase : IsPhaseFor merges k.group k.phase
+  pub phase : IsGroupPhase merges k.group k.phase
 
-abbrev pub own_in : Bool → GroupingView → OwnState
-own_in merges k = phase_own merges k.group k.phase
+abbrev pub grouping_own : Bool → GroupingView → OwnState
+grouping_own merges k = phase_own merges k.group k.phase
 
 abbrev pub state_in : Bool → GroupingView → KernelState
-state_in merges k = kernel_of (kind_for merges) (spec_for merges k.group) (own_in merges k)
+state_in merges k =
+    kernel_of (aggregate_kind merges) (aggregate_spec merges k.group) (grouping_own merges k)

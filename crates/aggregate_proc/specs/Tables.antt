@@ -40,46 +40,46 @@ group_column n rows f = record {
 }
 
 -- the first n values of the row are a key
-abbrev pub HasKey : List ColumnType → ℕ → Row → Type 0
-HasKey types n row = HasKeyAt types (count_up n) row
+abbrev pub HasKeyFirst : List ColumnType → ℕ → Row → Type 0
+HasKeyFirst types n row = HasKeyAt types (count_up n) row
 
 -- The table of these rows of the types: the codes seen are those of their keys, the first n values,
 -- and each column has
 -- what is folded of each group.
-pub record IsTableOf (types : List ColumnType) (n : ℕ) (foldings : List Folding)
+pub record IsGroupTableOf (types : List ColumnType) (n : ℕ) (foldings : List Folding)
     (codes : List (List ℕ)) (columns : List FoldColumn) (rows : List Row) : Type 0 where
-  pub input : AllByRecursion (HasKey types n) rows
+  pub input : AllByRecursion (HasKeyFirst types n) rows
   pub seen : codes ≡ map key_code (group_keys n rows)
   pub folds : columns ≡ map (group_column n rows) foldings
 
 -- what is seen of a group table: the types of its input, of which the first are its keys, the codes
 -- seen, and its columns
-pub record TableView : Type 0 where
+pub record GroupTableView : Type 0 where
   pub types : List ColumnType
   pub keys : ℕ
   pub codes : List (List ℕ)
   pub columns : List FoldColumn
 
-abbrev pub table_view : List ColumnType → ℕ → SeenKeys → List FoldColumn → TableView
-table_view types keys seen columns =
+abbrev pub group_table_view : List ColumnType → ℕ → SeenKeys → List FoldColumn → GroupTableView
+group_table_view types keys seen columns =
     record { types = types; keys = keys; codes = codes_in seen; columns = columns }
 
 -- the table of some rows
-pub record IsTable (t : TableView) : Type 0 where
+pub record IsGroupTable (t : GroupTableView) : Type 0 where
   pub wide : t.keys ≤ length t.types
   pub fits : All (FitsColumn t.types) t.columns
   pub rows : List Row
-  pub is : IsTableOf t.types t.keys (map folding_of t.columns) t.codes t.columns rows
+  pub is : IsGroupTableOf t.types t.keys (map folding_of t.columns) t.codes t.columns rows
 
-abbrev pub foldings_of : TableView → List Folding
+abbrev pub foldings_of : GroupTableView → List Folding
 foldings_of t = map folding_of t.columns
 
-abbrev pub kinds_of : TableView → List ColumnType
-kinds_of t = map (λ (c : FoldColumn). c.kind) t.columns
+abbrev pub fold_types : GroupTableView → List ColumnType
+fold_types t = map (λ (c : FoldColumn). c.kind) t.columns
 
 -- the rows of a table: of each group its key, and what is folded of it
-abbrev pub rows_in : TableView → List Row
-rows_in t = rows_of (length t.codes) (map (λ (c : FoldColumn). c.values) t.columns)
+abbrev pub group_table_rows : GroupTableView → List Row
+group_table_rows t = rows_of (length t.codes) (map (λ (c : FoldColumn). c.values) t.columns)
 
 -- the columns that keep the first n values
 abbrev pub key_foldings : List ColumnType → ℕ → List Folding
@@ -97,12 +97,12 @@ AreCalls (f ∷ foldings) (call ∷ calls) =
 AreCalls foldings calls = ⊥
 
 -- The groups of rows, and of more rows behind them.
-pub record GroupsMore (old : TableView) (more : List Row) (new : TableView) : Type 0 where
+pub record GroupsMore (old : GroupTableView) (more : List Row) (new : GroupTableView) : Type 0 where
   pub types : new.types ≡ old.types
   pub keys : new.keys ≡ old.keys
   pub foldings : foldings_of new ≡ foldings_of old
   pub groups : (calls : List Call) (foldings : List Folding)
       → foldings_of old ≡ key_foldings old.types old.keys ++ foldings
       → AreCalls foldings calls → (rows : List Row)
-      → rows_in old ≡ grouped_by (key_of old.keys) calls rows
-      → rows_in new ≡ grouped_by (key_of old.keys) calls (rows ++ more)
+      → group_table_rows old ≡ grouped_by (key_of old.keys) calls rows
+      → group_table_rows new ≡ grouped_by (key_of old.keys) calls (rows ++ more)

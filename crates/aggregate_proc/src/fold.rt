@@ -2,7 +2,7 @@ ghost use Rattle.std.specs.Prelude.{◌≡◌, ◌≢◌, true, IsTrue, if◌the
 ghost use Rattle.chunk_data.specs.Columns.{column_type, values};
 ghost use Rattle.chunk_data.specs.declared.typed_value.Value.{Value};
 ghost use Rattle.chunk_data.specs.declared.typed_value.Value.TheVariants as value;
-ghost use Rattle.aggregate_proc.specs.Cells.{cell_kind, cell_values, can_fold as may_fold, FitsColumn};
+ghost use Rattle.aggregate_proc.specs.Cells.{cell_type, cell_values, can_fold as may_fold, FitsColumn};
 ghost use Rattle.aggregate_proc.specs.Folds.{next_folded, put_all, with_rows};
 ghost use Rattle.aggregate_proc.specs.declared.fold.Fold.TheVariants as fold;
 
@@ -25,31 +25,31 @@ pub(crate) enum Fold {
 
 /// The values of a column of a group table. Texts lie apart, since each may be replaced.
 #[derive(Drop)]
-pub(crate) enum Cells {
+pub(crate) enum FoldValues {
     Ints(Vec<i64>),
     UInts(Vec<u64>),
     Texts(Vec<Bytes>),
 }
 
-impl Cells {
-    fn new(alloc: Global, kind: ColumnType) -> Cells
-        ensures kind { cell_kind result ≡ kind }
+impl FoldValues {
+    fn new(alloc: Global, kind: ColumnType) -> FoldValues
+        ensures kind { cell_type result ≡ kind }
         ensures empty { cell_values result ≡ [] }
     {
         match kind {
-            ColumnType::Int64 => Cells::Ints(Vec::new(alloc)),
-            ColumnType::UInt64 => Cells::UInts(Vec::new(alloc)),
-            ColumnType::Text => Cells::Texts(Vec::new(alloc)),
+            ColumnType::Int64 => FoldValues::Ints(Vec::new(alloc)),
+            ColumnType::UInt64 => FoldValues::UInts(Vec::new(alloc)),
+            ColumnType::Text => FoldValues::Texts(Vec::new(alloc)),
         }
     }
 
     fn kind(&self) -> ColumnType
-        ensures { result ≡ cell_kind self.now }
+        ensures { result ≡ cell_type self.now }
     {
         match self {
-            Cells::Ints(_) => ColumnType::Int64,
-            Cells::UInts(_) => ColumnType::UInt64,
-            Cells::Texts(_) => ColumnType::Text,
+            FoldValues::Ints(_) => ColumnType::Int64,
+            FoldValues::UInts(_) => ColumnType::UInt64,
+            FoldValues::Texts(_) => ColumnType::Text,
         }
     }
 }
@@ -60,18 +60,18 @@ impl Cells {
 pub(crate) struct FoldColumn {
     op: Fold,
     input: usize,
-    cells: Cells,
-    ghost sound: { may_fold op (cell_kind cells) ≡ true },
+    cells: FoldValues,
+    ghost sound: { may_fold op (cell_type cells) ≡ true },
 }
 
 impl Model for FoldColumn {
-    ghost use Rattle.aggregate_proc.specs.Cells.{cell_kind, cell_values};
+    ghost use Rattle.aggregate_proc.specs.Cells.{cell_type, cell_values};
     ghost use Rattle.aggregate_proc.specs.Folds.{FoldColumn as Seen};
 
     ghost Value = { Seen };
 
     ghost view = { λ c. record
-        { op = c.op; input = c.input; kind = cell_kind c.cells; values = cell_values c.cells } };
+        { op = c.op; input = c.input; kind = cell_type c.cells; values = cell_values c.cells } };
 }
 
 fn next_int(op: Fold, state: i64, number: i64) -> i64
@@ -229,7 +229,7 @@ impl FoldColumn {
         FoldColumn {
             op,
             input,
-            cells: Cells::new(alloc, kind),
+            cells: FoldValues::new(alloc, kind),
         }
     }
 
@@ -245,21 +245,21 @@ impl FoldColumn {
         ensures { OnOk result (self.new ≡ with_rows places.now chunk.now.rows self.old) }
     {
         match (self.op, &mut self.cells) {
-            (Fold::Count, Cells::UInts(states)) => fold_counts(states, places),
+            (Fold::Count, FoldValues::UInts(states)) => fold_counts(states, places),
             (Fold::Count, _) => unreachable!(),
-            (op, Cells::Ints(states)) => fold_ints(
+            (op, FoldValues::Ints(states)) => fold_ints(
                 op,
                 states,
                 chunk.column(self.input).ints(),
                 places,
             ),
-            (op, Cells::UInts(states)) => fold_uints(
+            (op, FoldValues::UInts(states)) => fold_uints(
                 op,
                 states,
                 chunk.column(self.input).uints(),
                 places,
             ),
-            (op, Cells::Texts(states)) => fold_texts(
+            (op, FoldValues::Texts(states)) => fold_texts(
                 op,
                 alloc,
                 states,
@@ -276,9 +276,9 @@ impl FoldColumn {
     {
         let FoldColumn { cells, .. } = self;
         match cells {
-            Cells::Ints(numbers) => Ok(Column::of_ints(numbers)),
-            Cells::UInts(numbers) => Ok(Column::of_uints(numbers)),
-            Cells::Texts(texts) => Ok(Column::of_texts(texts_of(alloc, texts)?)),
+            FoldValues::Ints(numbers) => Ok(Column::of_ints(numbers)),
+            FoldValues::UInts(numbers) => Ok(Column::of_uints(numbers)),
+            FoldValues::Texts(texts) => Ok(Column::of_texts(texts_of(alloc, texts)?)),
         }
     }
 }

@@ -1,8 +1,8 @@
 ghost use Rattle.std.specs.Prelude.{◌≡◌, ◌≤◌, ◌++◌, true, [], length, map, IsTrue, IfOk, OnOk};
 ghost use Rattle.std.specs.List.{All};
 ghost use Rattle.aggregate_proc.specs.Cells.{FitsColumn};
-ghost use Rattle.aggregate_proc.specs.GroupKinds.{AreSound, call_foldings, empty_column, fold_of as the_fold, fold_for as the_fold_for, IsTableFor, types_for};
-ghost use Rattle.aggregate_proc.specs.Tables.{key_foldings, rows_in};
+ghost use Rattle.aggregate_proc.specs.GroupKinds.{AreSound, call_foldings, empty_column, fold_of as the_fold, fold_for as the_fold_for, IsGroupTableFor, types_for};
+ghost use Rattle.aggregate_proc.specs.Tables.{group_table_rows, key_foldings};
 
 use crate::fold::{Fold, FoldColumn, can_fold};
 use crate::group_table::{GroupTable, first_columns};
@@ -114,8 +114,8 @@ pub(crate) fn new_table(
     group: &GroupSpec,
 ) -> Result<GroupTable, Memory>
     requires { AreSound group.now.calls }
-    ensures table { IfOk result (λ t. IsTableFor merges group.now t) }
-    ensures rows { IfOk result (λ t. rows_in t ≡ []) }
+    ensures table { IfOk result (λ t. IsGroupTableFor merges group.now t) }
+    ensures rows { IfOk result (λ t. group_table_rows t ≡ []) }
 {
     let types = input_types(alloc, merges, group)?;
     let keys = group.keys.len();

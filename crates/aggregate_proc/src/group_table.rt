@@ -5,7 +5,7 @@ ghost use Rattle.chunk_data.specs.Rows.{rows_of};
 ghost use Rattle.query_model.specs.Sources.{count_up};
 ghost use Rattle.aggregate_proc.specs.Cells.{FitsColumn};
 ghost use Rattle.aggregate_proc.specs.Folds.{with_rows};
-ghost use Rattle.aggregate_proc.specs.Tables.{GroupsMore, kinds_of, rows_in};
+ghost use Rattle.aggregate_proc.specs.Tables.{GroupsMore, fold_types, group_table_rows};
 
 use crate::fold::FoldColumn;
 use chunk_data::{Chunk, Column, ColumnType, List, Memory};
@@ -25,16 +25,16 @@ pub(crate) struct GroupTable {
 }
 
 impl Model for GroupTable {
-    ghost use Rattle.key_codes.specs.Keys.{IsSeenFor, kinds_at};
+    ghost use Rattle.key_codes.specs.Keys.{IsSeenFor, plain_types_at};
     ghost use Rattle.query_model.specs.Sources.{count_up};
-    ghost use Rattle.aggregate_proc.specs.Tables.{IsTable, TableView, table_view};
+    ghost use Rattle.aggregate_proc.specs.Tables.{GroupTableView, IsGroupTable, group_table_view};
 
-    ghost Value = { TableView };
+    ghost Value = { GroupTableView };
 
-    ghost view = { λ t. table_view t.types t.keys t.seen t.columns.items };
+    ghost view = { λ t. group_table_view t.types t.keys t.seen t.columns.items };
 
-    ghost invariant = { λ t. IsTable (table_view t.types t.keys t.seen t.columns.items)
-        × IsSeenFor (kinds_at t.types (count_up t.keys)) t.seen };
+    ghost invariant = { λ t. IsGroupTable (group_table_view t.types t.keys t.seen t.columns.items)
+        × IsSeenFor (plain_types_at t.types (count_up t.keys)) t.seen };
 }
 
 /// The first n columns.
@@ -94,7 +94,7 @@ impl GroupTable {
         ensures types { result.types ≡ types }
         ensures keys { result.keys ≡ keys }
         ensures columns { result.columns ≡ columns.items }
-        ensures rows { rows_in result ≡ [] }
+        ensures rows { group_table_rows result ≡ [] }
     {
         let seen = SeenKeys::new(alloc, types.as_slice(), first);
         GroupTable {
@@ -115,7 +115,7 @@ impl GroupTable {
 
     /// How many groups there are.
     pub(crate) fn groups(&self) -> usize
-        ensures { result ≡ length (rows_in self.now) }
+        ensures { result ≡ length (group_table_rows self.now) }
     {
         self.seen.len()
     }
@@ -146,8 +146,8 @@ impl GroupTable {
 
     /// The rows: of each group its key, and what is folded of it.
     pub(crate) fn into_chunk(self) -> Result<Chunk, Memory>
-        ensures types { IfOk result (λ c. c.types ≡ kinds_of self) }
-        ensures rows { IfOk result (λ c. c.rows ≡ rows_in self) }
+        ensures types { IfOk result (λ c. c.types ≡ fold_types self) }
+        ensures rows { IfOk result (λ c. c.rows ≡ group_table_rows self) }
     {
         let GroupTable {
             alloc,

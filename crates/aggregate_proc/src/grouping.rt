@@ -1,11 +1,11 @@
 ghost use Rattle.std.specs.Prelude.{◌≡◌, ◌↔◌, ◌+◌, ◌<◌, ◌≤◌, Bool, true, false, [], ◌∷◌, drop, length, map, take, IsTrue, IfOk, IfErr, OnOk};
 ghost use Rattle.chunk_data.specs.Columns.{column_type, values};
 ghost use Rattle.chunk_data.specs.Values.{default_value};
-ghost use Rattle.proc_api.specs.Grouped.{default_states, group_types};
+ghost use Rattle.proc_api.specs.Grouped.{default_states, spec_group_types};
 ghost use Rattle.proc_api.specs.declared.status.WorkFault.TheVariants as fault;
 ghost use Rattle.proc_shell.specs.Kernels.{AreInputsOver, Begins, Makes};
-ghost use Rattle.aggregate_proc.specs.GroupKinds.{giving_own, given_for, IsNext, IsTableFor, NotesEnd, own_in, spec_for};
-ghost use Rattle.aggregate_proc.specs.Tables.{rows_in};
+ghost use Rattle.aggregate_proc.specs.GroupKinds.{giving_own, given_for, IsNextOfGroups, IsGroupTableFor, NotesGroupsEnd, grouping_own, aggregate_spec};
+ghost use Rattle.aggregate_proc.specs.Tables.{group_table_rows};
 
 use crate::group_builder::{are_sound, new_table};
 use crate::group_table::GroupTable;
@@ -83,13 +83,13 @@ pub struct Grouping<G: Grouped> {
 }
 
 impl<G: Grouped> Model for Grouping<G> {
-    ghost use Rattle.aggregate_proc.specs.GroupKinds.{GroupingView, IsGrouping};
+    ghost use Rattle.aggregate_proc.specs.GroupKinds.{GroupingView, IsGroupState};
 
     ghost Value = { GroupingView };
 
     ghost view = { λ k. record { group = k.group; phase = k.phase } };
 
-    ghost invariant = { λ k. IsGrouping G.merges (record { group = k.group; phase = k.phase }) };
+    ghost invariant = { λ k. IsGroupState G.merges (record { group = k.group; phase = k.phase }) };
 }
 
 // Whether each input is finished or closed.
@@ -127,7 +127,7 @@ fn default_column(alloc: Global, kind: ColumnType) -> Result<Column, Memory>
 // The one row of defaults.
 fn default_chunk(alloc: Global, group: &GroupSpec) -> Result<Chunk, Memory>
     requires { group.now.keys ≡ [] }
-    ensures types { IfOk result (λ c. c.types ≡ group_types group.now) }
+    ensures types { IfOk result (λ c. c.types ≡ spec_group_types group.now) }
     ensures rows { IfOk result (λ c. c.rows ≡ default_states group.now ∷ []) }
 {
     let mut columns = Vec::new(alloc);
@@ -144,10 +144,10 @@ fn whole_chunk(
     group: &GroupSpec,
     table: GroupTable,
 ) -> Result<Chunk, Memory>
-    requires table { IsTableFor merges group.now table }
+    requires table { IsGroupTableFor merges group.now table }
     requires bare { group.now.lone ≡ true → group.now.keys ≡ [] }
-    ensures types { IfOk result (λ c. c.types ≡ group_types group.now) }
-    ensures rows { IfOk result (λ c. c.rows ≡ given_for merges group.now (rows_in table)) }
+    ensures types { IfOk result (λ c. c.types ≡ spec_group_types group.now) }
+    ensures rows { IfOk result (λ c. c.rows ≡ given_for merges group.now (group_table_rows table)) }
 {
     if merges && group.lone && table.groups() == 0 {
         return default_chunk(alloc, group);
@@ -159,8 +159,8 @@ impl<G: Grouped> Grouping<G> {
     // Without groups. A spec that sums texts, or whose counts aren't UInt64, is refused.
     fn begun(alloc: Global, group: GroupSpec) -> Result<Grouping<G>, Memory>
         ensures { IfOk result
-            (λ k. Begins (spec_for G.merges group) (spec_for G.merges k.group)
-            (own_in G.merges k)) }
+            (λ k. Begins (aggregate_spec G.merges group) (aggregate_spec G.merges k.group)
+            (grouping_own G.merges k)) }
     {
         if !are_sound(group.calls.as_slice()) || (group.lone && group.keys.len() > 0) {
             return Err(Memory);
@@ -178,8 +178,8 @@ impl<G: Grouped> Grouping<G> {
     // Notes that the inputs have ended.
     fn note_end(&mut self)
         ensures group { self.new.group ≡ self.old.group }
-        ensures notes { NotesEnd G.merges self.old.group (own_in G.merges self.old)
-            (own_in G.merges self.new) }
+        ensures notes { NotesGroupsEnd G.merges self.old.group (grouping_own G.merges self.old)
+            (grouping_own G.merges self.new) }
     {
         match replace(&mut self.phase, Phase::Failed) {
             Phase::Gathering(table) => put_phase(&mut self.phase, Phase::Ended(table)),
@@ -189,7 +189,7 @@ impl<G: Grouped> Grouping<G> {
 
     // Rows, if some can be made.
     fn next_offer(&self) -> Offer
-        ensures { IsNext (own_in G.merges self.now) result }
+        ensures { IsNextOfGroups (grouping_own G.merges self.now) result }
     {
         let some = match &self.phase {
             Phase::Gathering(_) => false,
@@ -202,12 +202,12 @@ impl<G: Grouped> Grouping<G> {
 
     // Makes a chunk of the rows from a place on.
     fn give(&mut self, chunk: Chunk, next: usize) -> Result<Option<Chunk>, WorkFault>
-        requires types { chunk.types ≡ group_types self.old.group }
+        requires types { chunk.types ≡ spec_group_types self.old.group }
         requires within { next ≤ length chunk.rows }
         ensures group { self.new.group ≡ self.old.group }
         ensures makes { IfOk result
-            (Makes (spec_for G.merges self.old.group) (giving_own (drop next chunk.rows))
-            (own_in G.merges self.new)) }
+            (Makes (aggregate_spec G.merges self.old.group) (giving_own (drop next chunk.rows))
+            (grouping_own G.merges self.new)) }
         ensures fails { IfErr result (λ f. f ≡ fault.Memory) }
     {
         let count = (chunk.rows() - next).min((self.group.rows as usize).max(1));
@@ -227,10 +227,10 @@ impl<G: Grouped> Grouping<G> {
 
 impl<G: Grouped> Kernel for Grouping<G> {
     ghost use Rattle.std.specs.Prelude.{refl};
-    ghost use Rattle.aggregate_proc.specs.GroupKinds.{kind_for, open_for, state_in};
+    ghost use Rattle.aggregate_proc.specs.GroupKinds.{aggregate_kind, open_for, state_in};
     ghost use Rattle.aggregate_proc.specs.GroupShells.{grouping_kind, grouping_shelled, grouping_uses};
 
-    ghost kind_is = { kind_for G.merges };
+    ghost kind_is = { aggregate_kind G.merges };
 
     ghost state = { state_in G.merges };
 

@@ -1,5 +1,5 @@
 -- Rows agree exactly where their keys have one code.
-use Rattle.join_proc.proofs.Imports.{All, All-map, AllByRecursion, AreCells, AreKeyPairs, ColumnType, HasKey, IsKeyPair, IsSeenFor, JoinSpec, KeyPair, Row, agree, codes-agree, first_of, key_at, type_at, kinds_at, left_places, length-map, recursion_from_All, right_places, row_code, same_code, same_row, same_row_is, SeenKeys, List, [], ap, ap₂, arith, length, map, refl, sym, true, ℕ, ◌<◌, ◌∙◌, ◌∷◌, ◌≡◌}
+use Rattle.join_proc.proofs.Imports.{All, All-map, AllByRecursion, AreKeyValues, AreKeyPairs, ColumnType, HasKey, IsKeyPair, IsSeenFor, JoinSpec, KeyPair, Row, agree, codes-agree, first_key_column, key_at, type_at, plain_types_at, left_places, length-map, recursion_from_All, right_places, row_code, same_code, same_row, same_row_is, SeenKeys, List, [], ap, ap₂, arith, length, map, refl, sym, true, ℕ, ◌<◌, ◌∙◌, ◌∷◌, ◌≡◌}
 use Rattle.chunk_data.specs.Values.{plain_type}
 
 -- rows agree where they have one key
@@ -11,12 +11,14 @@ agree-keys (pair ∷ pairs) l r = grind (arith, agree-keys pairs l r)
 
 -- the pairs are of columns of one plain type
 pub pair-kinds : (join : JoinSpec) → AreKeyPairs join
-    → kinds_at join.left (left_places join.pairs) ≡ kinds_at join.right (right_places join.pairs)
+    → plain_types_at join.left (left_places join.pairs)
+    ≡ plain_types_at join.right (right_places join.pairs)
 pair-kinds join h = go join.pairs
     (recursion_from_All (IsKeyPair join.left join.right) join.pairs h)
   where
     go : (pairs : List KeyPair) → AllByRecursion (IsKeyPair join.left join.right) pairs
-        → kinds_at join.left (left_places pairs) ≡ kinds_at join.right (right_places pairs)
+        → plain_types_at join.left (left_places pairs)
+        ≡ plain_types_at join.right (right_places pairs)
     go [] h = refl
     go (pair ∷ pairs) h = ap₂ ◌∷◌ (ap plain_type h.0.2) (go pairs h.1)
 
@@ -39,7 +41,7 @@ module _ (types : List ColumnType) (pairs : List KeyPair) where
       → agree pairs l r ≡ same_code e (row_code (right_places pairs) r)
 
   pub left-code : (l : Row)
-      → AreCells (kinds_at types (right_places pairs)) (key_at (left_places pairs) l)
+      → AreKeyValues (plain_types_at types (right_places pairs)) (key_at (left_places pairs) l)
       → HasCode l (row_code (left_places pairs) l)
   left-code l p = grind (arith, agree-keys, codes-agree)
 
@@ -50,7 +52,7 @@ module _ (types : List ColumnType) (pairs : List KeyPair) where
       let key = same_row_is.one (key_at (left_places pairs) l) (key_at (right_places pairs) r)
       (sym (agree-keys pairs l r) ∙ e) in
       agree-keys pairs l s ∙ ap (λ k. same_row k (key_at (right_places pairs) s)) key
-      ∙ sym (codes-agree (kinds_at types (right_places pairs))
+      ∙ sym (codes-agree (plain_types_at types (right_places pairs))
       (key_at (right_places pairs) r) (key_at (right_places pairs) s) p q)
 
   pub code-mask : (l : Row) (e : List ℕ) → HasCode l e → (rows : List Row)

@@ -1,5 +1,5 @@
 -- A join keeps what its kind says of the chunks that it worked.
-use Rattle.join_proc.proofs.Imports.{◌≡◌, ℕ, ◌<◌, true, [], ◌∷◌, ◌++◌, length, append_assoc, IsPermutation, Some, None, sym, ap, ◌∙◌, subst, arith, AreStarts, IsPermutation-append_left, JoinIndex, JoinSpec, JoinsSome, LeftRows, Lists, Makes, OwnState, Table, Takes, append-nil, chunk-elsewhere, chunk-here, chunk_rows, flat_map-append, joined_rows, joining_own, one-more, rows_left, with_chunk}
+use Rattle.join_proc.proofs.Imports.{◌≡◌, ℕ, ◌<◌, true, [], ◌∷◌, ◌++◌, length, append_assoc, IsPermutation, Some, None, sym, ap, ◌∙◌, subst, arith, AreStarts, IsPermutation-append_left, JoinIndex, JoinSpec, JoinsSome, LeftRows, Lists, Makes, OwnState, Table, Takes, append-nil, chunk-elsewhere, chunk-here, chunk_rows, flat_map-append, joined_rows, joining_own, one-more, rows_to_join, with_chunk}
 use Rattle.query_model.specs.declared.processor_spec.Spec.TheVariants as spec
 
 -- the rows of an input with a chunk more, and those of another
@@ -33,12 +33,12 @@ takes-left join old x l t none ended gathered s = record {
         none_made = λ f. absurd (cc);
         joined = λ f.
             subst (λ ls. IsPermutation (joined_rows join.pairs ls (chunk_rows
-            (with_chunk 0 t worked 1))) (made ++ rows_left join.pairs x.rows.rows l))
+            (with_chunk 0 t worked 1))) (made ++ rows_to_join join.pairs x.rows.rows l))
             (sym (here 0 t worked))
             (subst (λ rs. IsPermutation (joined_rows join.pairs (left ++ t.rows) rs)
-            (made ++ rows_left join.pairs x.rows.rows l))
+            (made ++ rows_to_join join.pairs x.rows.rows l))
             (sym (there 0 1 t worked (λ z. absurd (cc)) ∙ right))
-            (subst (λ rows. IsPermutation rows (made ++ rows_left join.pairs x.rows.rows l))
+            (subst (λ rows. IsPermutation rows (made ++ rows_to_join join.pairs x.rows.rows l))
             (sym more)
             (subst (λ rows. IsPermutation (joined_rows join.pairs left x.rows.rows
             ++ joined_rows join.pairs t.rows x.rows.rows) (made ++ rows)) (sym s.all_left)
@@ -56,6 +56,6 @@ takes-left join old x l t none ended gathered s = record {
 
 pub makes : (join : JoinSpec) (x : JoinIndex) (old new : LeftRows) (c : Table)
     → JoinsSome join x old new c → c.types ≡ join.left ++ join.right
-    → 0 < length (rows_left join.pairs x.rows.rows old)
+    → 0 < length (rows_to_join join.pairs x.rows.rows old)
     → Makes (spec.HashJoin join) (joining_own join x old) (joining_own join x new) (Some c)
 makes join x old new c s types some = grind (arith, append-nil, append_assoc)

@@ -1,5 +1,5 @@
 -- What a left chunk still makes, and what is made of it pair by pair.
-use Rattle.join_proc.proofs.Imports.{All, All-append, All-from_recursion, All-set, AllByRecursion, AreCells, AreFit, AreStarts, IsIndexOf, IsStart, JoinIndex, JoinSpec, JoinsRows, JoinsSome, KeyPair, LeftRows, Moves, PairsMore, PlacePairs, Row, Start, Table, agree, cases_lt, codes_in, drop-cons, drop-set, drop_all, get_or_default, append_each, joined_rows, key_at, kinds_at, left_places, length-append, ltb-true, no_start, paired, position_or_len, right_places, row_at, row_code, rows_left, same_code, start_rows, starts_at, Bool, List, [], ap, append_assoc, ap₂, arith, cond, drop, false, filter, flat_map, get_or, inl, inr, leb, length, ltb, map, max, refl, subst, suc, sym, true, ℕ, ◌++◌, ◌+◌, ◌<◌, ◌==◌, ◌∙◌, ◌∷◌, ◌≡◌, ◌≤◌, ◌⊎◌, eq-eqb, le-leb, lt-leb, ne_eqb}
+use Rattle.join_proc.proofs.Imports.{All, All-append, All-from_recursion, All-set, AllByRecursion, AreKeyValues, AreFit, AreStarts, IsIndexOf, IsStart, JoinIndex, JoinSpec, JoinsRows, JoinsSome, KeyPair, LeftRows, MovesOn, PairsMore, PlacePairs, Row, LeftStart, Table, agree, cases_lt, codes_in, drop-cons, drop-set, drop_all, get_or_default, append_each, joined_rows, key_at, plain_types_at, left_places, length-append, ltb-true, no_start, paired, position_or_len, right_places, row_at, row_code, rows_to_join, same_code, start_rows, starts_at, Bool, List, [], ap, append_assoc, ap₂, arith, cond, drop, false, filter, flat_map, get_or, inl, inr, leb, length, ltb, map, max, refl, subst, suc, sym, true, ℕ, ◌++◌, ◌+◌, ◌<◌, ◌==◌, ◌∙◌, ◌∷◌, ◌≡◌, ◌≤◌, ◌⊎◌, eq-eqb, le-leb, lt-leb, ne_eqb}
 use Rattle.join_proc.proofs.AgreeLaws.{left-code}
 use Rattle.join_proc.proofs.IndexLaws.{first-row, next-match, next_row, rows-linked}
 use Rattle.join_proc.proofs.PlaceLaws.{filter-from, first-passes}
@@ -22,13 +22,13 @@ module _ (pairs : List KeyPair) (x : JoinIndex) (is : IsIndexOf pairs x) (left :
   place l = position_or_len (same_code (row_code (left_places pairs) l)) (codes_in x.seen)
 
   -- the left rows from row i on, and what is made of them
-  record Begun (i : ℕ) (ls : List Row) (starts : List Start) : Type 0 where
+  record Begun (i : ℕ) (ls : List Row) (starts : List LeftStart) : Type 0 where
     fit : AllByRecursion (IsStart pairs left right) starts
     rows : flat_map (start_rows pairs left right) starts ≡ joined_rows pairs ls right
 
   abbrev HasLeftKey : Row → Type 0
   HasLeftKey l =
-      AreCells (kinds_at x.rows.types (right_places pairs)) (key_at (left_places pairs) l)
+      AreKeyValues (plain_types_at x.rows.types (right_places pairs)) (key_at (left_places pairs) l)
 
   one-begun : (l : Row) (ls : List Row) (i : ℕ) → i < length left → row_at left i ≡ l
       → HasLeftKey l
@@ -39,7 +39,7 @@ module _ (pairs : List KeyPair) (x : JoinIndex) (is : IsIndexOf pairs x) (left :
       first : ℕ
       first = get_or x.firsts.items (place l) 0
 
-      rest : List Start
+      rest : List LeftStart
       rest = starts_at x.firsts.items (length right) (suc i) (map place ls)
 
       is-next : first ≡ next_row pairs l right 0
@@ -103,7 +103,7 @@ module _ (pairs : List KeyPair) (x : JoinIndex) (is : IsIndexOf pairs x) (left :
 -- ---- one pair
 
 -- the first of the rows that a start makes, and the others
-start-one : (pairs : List KeyPair) (left right : List Row) (s : Start)
+start-one : (pairs : List KeyPair) (left right : List Row) (s : LeftStart)
     → IsStart pairs left right s → (n : ℕ)
     → n ≡ next_row pairs (row_at left s.left) right (suc s.next)
     → start_rows pairs left right s
@@ -122,7 +122,7 @@ module _ (pairs : List KeyPair) (x : JoinIndex) (is : IsIndexOf pairs x) (old ne
   abbrev rows : List Row
   rows = x.rows.rows
 
-  abbrev start : Start
+  abbrev start : LeftStart
   start = get_or old.starts.items old.at no_start
 
   abbrev left_row : Row
@@ -131,7 +131,7 @@ module _ (pairs : List KeyPair) (x : JoinIndex) (is : IsIndexOf pairs x) (old ne
   abbrev row : Row
   row = left_row ++ row_at rows start.next
 
-  abbrev on : Start
+  abbrev on : LeftStart
   on = record { left = start.left; next = n }
 
   abbrev behind : List Row
@@ -143,18 +143,18 @@ module _ (pairs : List KeyPair) (x : JoinIndex) (is : IsIndexOf pairs x) (old ne
   pub next-within : start.next < length x.nexts.items
   next-within = subst (λ m. start.next < m) (sym (rows-linked pairs x is)) fits-here.right_within
 
-  module _ (s : Start) (here : s ≡ start) (count : ℕ) (many : count ≡ length rows)
-      (read : n ≡ get_or x.nexts.items s.next n) (moved : Moves s.left n count old new) where
-    moves : Moves start.left n (length rows) old new
-    moves = subst (λ m. Moves start.left n m old new) many
-        (subst (λ (t : Start). Moves t.left n count old new) here moved)
+  module _ (s : LeftStart) (here : s ≡ start) (count : ℕ) (many : count ≡ length rows)
+      (read : n ≡ get_or x.nexts.items s.next n) (moved : MovesOn s.left n count old new) where
+    moves : MovesOn start.left n (length rows) old new
+    moves = subst (λ m. MovesOn start.left n m old new) many
+        (subst (λ (t : LeftStart). MovesOn t.left n count old new) here moved)
 
     next-is : n ≡ next_row pairs left_row rows (suc start.next)
-    next-is = read ∙ ap (λ (t : Start). get_or x.nexts.items t.next n) here
+    next-is = read ∙ ap (λ (t : LeftStart). get_or x.nexts.items t.next n) here
         ∙ get_or_default x.nexts.items start.next n 0 next-within
         ∙ next-match pairs x is left_row start.next fits-here.right_within fits-here.agrees
 
-    left-here : rows_left pairs rows old
+    left-here : rows_to_join pairs rows old
         ≡ row ∷ (start_rows pairs old.chunk.rows rows on ++ behind)
     left-here =
         ap (flat_map (start_rows pairs old.chunk.rows rows))
@@ -175,9 +175,9 @@ module _ (pairs : List KeyPair) (x : JoinIndex) (is : IsIndexOf pairs x) (old ne
           | inr le ↦ subst (All (IsStart pairs old.chunk.rows rows)) (sym (moves.over le).1) fit
         ])
 
-    moved-left : start_rows pairs old.chunk.rows rows on ++ behind ≡ rows_left pairs rows new
+    moved-left : start_rows pairs old.chunk.rows rows on ++ behind ≡ rows_to_join pairs rows new
     moved-left =
-        let left : List Start → List Row = flat_map (start_rows pairs old.chunk.rows rows) in
+        let left : List LeftStart → List Row = flat_map (start_rows pairs old.chunk.rows rows) in
         let go : start_rows pairs old.chunk.rows rows on ++ behind
         ≡ left (drop new.at new.starts.items) = elim (cases_lt n (length rows)) [
           | inl lt ↦ sym (ap left (ap₂ drop (moves.on lt).0 (moves.on lt).1
@@ -199,14 +199,14 @@ module _ (pairs : List KeyPair) (x : JoinIndex) (is : IsIndexOf pairs x) (old ne
       start = start;
       left_within = fits-here.left_within;
       right_within = fits-here.right_within;
-      lefts = l ∙ ap (λ (t : Start). places.lefts.items ++ t.left ∷ []) here;
-      rights = r ∙ ap (λ (t : Start). places.rights.items ++ t.next ∷ []) here;
+      lefts = l ∙ ap (λ (t : LeftStart). places.lefts.items ++ t.left ∷ []) here;
+      rights = r ∙ ap (λ (t : LeftStart). places.rights.items ++ t.next ∷ []) here;
       rows = left-here ∙ ap (λ m. row ∷ m) moved-left;
     }
 
 -- Where a start is left, a row is.
 pub some-left : (pairs : List KeyPair) (right : List Row) (l : LeftRows) → AreFit pairs right l
-    → l.at < length l.starts.items → 0 < length (rows_left pairs right l)
+    → l.at < length l.starts.items → 0 < length (rows_to_join pairs right l)
 some-left pairs right l fit some =
     let s = get_or l.starts.items l.at no_start in
     let f = fit l.at no_start some in
@@ -217,7 +217,7 @@ some-left pairs right l fit some =
     omega (arith, e)
 
 pub none-left : (pairs : List KeyPair) (right : List Row) (l : LeftRows)
-    → length l.starts.items ≤ l.at → rows_left pairs right l ≡ []
+    → length l.starts.items ≤ l.at → rows_to_join pairs right l ≡ []
 none-left pairs right l le = grind (arith, drop_all)
 
 -- ---- several pairs
@@ -259,15 +259,15 @@ joins-more pairs right first old new places more e h m =
       same = ap length m.lefts ∙ length-append ps (m.start.left ∷ [])
           ∙ ap (λ n. n + 1) h.same ∙ sym (ap length m.rights
           ∙ length-append qs (m.start.next ∷ []));
-      rows = ap (λ l. l ++ rows_left pairs right new)
+      rows = ap (λ l. l ++ rows_to_join pairs right new)
           (ap₂ (λ a b. append_each (map (row_at left) a) (map (row_at right) b)) m.lefts m.rights
           ∙ paired-push (row_at left) (row_at right) ps qs m.start.left m.start.next h.same)
           ∙ append_assoc (paired left right places)
           ((row_at left m.start.left ++ row_at right m.start.next) ∷ [])
-          (rows_left pairs right new)
+          (rows_to_join pairs right new)
           ∙ ap (λ l. paired left right places ++ l)
           (ap (λ c. (row_at c m.start.left ++ row_at right m.start.next)
-          ∷ rows_left pairs right new) (sym chunk) ∙ sym m.rows)
+          ∷ rows_to_join pairs right new) (sym chunk) ∙ sym m.rows)
           ∙ h.rows;
     }
 
@@ -276,13 +276,13 @@ pub joins-some : (join : JoinSpec) (x : JoinIndex) (old new : LeftRows) (places 
     (t : Table) → JoinsRows join.pairs x.rows.rows old new places
     → length places.lefts.items ≤ max join.rows 1
     → (length places.lefts.items ≡ max join.rows 1)
-    ⊎ (rows_left join.pairs x.rows.rows new ≡ [])
+    ⊎ (rows_to_join join.pairs x.rows.rows new ≡ [])
     → t.types ≡ old.chunk.types ++ x.rows.types
     → t.rows ≡ paired old.chunk.rows x.rows.rows places → JoinsSome join x old new t
 joins-some join x old new places t h few some types rows = grind (arith, paired-long)
 
 -- a left chunk is joined where no row is left
 pub joined-empty : (pairs : List KeyPair) (right : List Row) (l : LeftRows) → AreFit pairs right l
-    → leb (length l.starts.items) l.at ≡ (length (rows_left pairs right l) == 0)
+    → leb (length l.starts.items) l.at ≡ (length (rows_to_join pairs right l) == 0)
 joined-empty pairs right l fit =
     grind (arith, cases_lt, lt-leb, ne_eqb, some-left, le-leb, eq-eqb, none-left)

@@ -4,4 +4,3 @@ mod AgreeLaws
 mod IndexLaws
 mod LeftLaws
 mod JoiningLaws
-mod Cited

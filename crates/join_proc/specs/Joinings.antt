@@ -1,11 +1,11 @@
 -- What a join is loaded with and keeps.
-use Rattle.join_proc.specs.Joins.{AreFit, IsIndexOf, rows_left}
+use Rattle.join_proc.specs.Joins.{AreFit, IsIndexOf, rows_to_join}
 use Rattle.join_proc.specs.declared.join_index.JoinIndex.{JoinIndex}
-use Rattle.join_proc.specs.declared.joining.Phase.{Phase}
+use Rattle.join_proc.specs.declared.joining.JoinPhase.{JoinPhase}
 use Rattle.join_proc.specs.declared.left_rows.LeftRows.{LeftRows}
-use Rattle.proc_api.specs.Names.{AreJoined, IsWorkOf, OwnState, chunk_rows, idle_own}
+use Rattle.proc_api.specs.Names.{IsWorkOf, OwnState, idle_own}
 use Rattle.proc_api.specs.Prelude.{JoinSpec, Row, Table}
-use Rattle.proc_shell.proofs.Through.{IsInOrder, pushes-in-order, shelled-plain}
+use Rattle.proc_shell.proofs.Through.{shelled-of}
 use Rattle.proc_shell.specs.Kernels.{IsShelled, KernelState, kernel_of, work_of}
 use Rattle.proc_shell.specs.declared.kernel.Offer.{Offer}
 use Rattle.std.proofs.Common.{ap, cond, eqb-true, inl, inr, refl, sym, ◌∙◌, ◌⊎◌}
@@ -13,7 +13,7 @@ use Rattle.std.specs.Prelude.{Bool, List, Some, [], false, length, true, ℕ, �
 use Rattle.query_model.specs.declared.processor_spec.Kind.TheVariants as kind
 use Rattle.query_model.specs.declared.processor_spec.Spec.TheVariants as spec
 use Rattle.proc_shell.specs.declared.kernel.Offer.TheVariants as offer
-use Rattle.join_proc.specs.declared.joining.Phase.TheVariants as phase
+use Rattle.join_proc.specs.declared.joining.JoinPhase.TheVariants as phase
 
 -- ---- the state
 
@@ -24,27 +24,27 @@ pub record JoiningView : Type 0 where
   pub gathered : List Table
   pub ended : Bool
 
-abbrev pub own_in : JoiningView → OwnState
-own_in k = record idle_own { unmade = k.unmade; gathered = k.gathered; ended = k.ended }
+abbrev pub join_own : JoiningView → OwnState
+join_own k = record idle_own { unmade = k.unmade; gathered = k.gathered; ended = k.ended }
 
-abbrev pub unmade_in : JoinSpec → Phase → List Row
-unmade_in join (phase.Joining x l) = rows_left join.pairs x.rows.rows l
-unmade_in join p = []
+abbrev pub join_unmade : JoinSpec → JoinPhase → List Row
+join_unmade join (phase.Joining x l) = rows_to_join join.pairs x.rows.rows l
+join_unmade join p = []
 
-abbrev pub gathered_in : Phase → List Table
+abbrev pub gathered_in : JoinPhase → List Table
 gathered_in (phase.Gathering t) = t ∷ []
 gathered_in (phase.Ended t) = t ∷ []
 gathered_in (phase.Joining x l) = x.rows ∷ []
 gathered_in phase.Failed = []
 
-abbrev pub ended_in : Phase → Bool
+abbrev pub ended_in : JoinPhase → Bool
 ended_in (phase.Gathering t) = false
 ended_in p = true
 
-abbrev pub view_of : JoinSpec → Phase → JoiningView
+abbrev pub view_of : JoinSpec → JoinPhase → JoiningView
 view_of join p = record {
   join = join;
-  unmade = unmade_in join p;
+  unmade = join_unmade join p;
   gathered = gathered_in p;
   ended = ended_in p;
 }
@@ -56,18 +56,18 @@ pub record IsJoining (join : JoinSpec) (x : JoinIndex) (l : LeftRows) : Type 0 w
   pub index : IsIndexOf join.pairs x
   pub fit : AreFit join.pairs x.rows.rows l
 
-abbrev pub IsPhaseFor : JoinSpec → Phase → Type 0
-IsPhaseFor join (phase.Gathering t) = t.types ≡ join.right
-IsPhaseFor join (phase.Ended t) = t.types ≡ join.right
-IsPhaseFor join (phase.Joining x l) = IsJoining join x l
-IsPhaseFor join phase.Failed = Unit {0}
+abbrev pub IsJoinPhase : JoinSpec → JoinPhase → Type 0
+IsJoinPhase join (phase.Gathering t) = t.types ≡ join.right
+IsJoinPhase join (phase.Ended t) = t.types ≡ join.right
+IsJoinPhase join (phase.Joining x l) = IsJoining join x l
+IsJoinPhase join phase.Failed = Unit {0}
 
 -- the right side has ended, and nothing is made yet
-abbrev pub gathered_own : Table → OwnState
-gathered_own t = record idle_own { gathered = t ∷ []; ended = true }
+abbrev pub gathered_right : Table → OwnState
+gathered_right t = record idle_own { gathered = t ∷ []; ended = true }
 
 abbrev pub joining_own : JoinSpec → JoinIndex → LeftRows → OwnState
-joining_own join x l = own_in (view_of join (phase.Joining x l))
+joining_own join x l = join_own (view_of join (phase.Joining x l))
 
 -- The right side comes first; then each side is open, while no rows are left to be made.
 abbrev pub is_open : JoiningView → ℕ → Bool
@@ -78,33 +78,21 @@ abbrev pub with_end : JoiningView → JoiningView
 with_end k = record k { ended = true }
 
 -- what is offered by what can be made
-abbrev pub IsNext : JoiningView → Offer → Type 0
-IsNext k offer.Rows = 0 < length k.unmade
-IsNext k offer.Wants = k.unmade ≡ []
-IsNext k _ = ⊥
-
-join_order : (join : JoinSpec) → IsInOrder (spec.HashJoin join)
-join_order join = record {
-  means = λ x own worked made. AreJoined join.pairs own (chunk_rows (worked 0))
-      (chunk_rows (worked 1)) made;
-  into = λ x own worked outs wait h. h;
-  from = λ x own worked outs wait h. h;
-}
+abbrev pub IsNextOfJoin : JoiningView → Offer → Type 0
+IsNextOfJoin k offer.Rows = 0 < length k.unmade
+IsNextOfJoin k offer.Wants = k.unmade ≡ []
+IsNextOfJoin k _ = ⊥
 
 pub join_shelled : (join : JoinSpec) → IsShelled (spec.HashJoin join)
 join_shelled join =
-    shelled-plain (spec.HashJoin join) refl
-    (λ growth kept m n had h position. (h.0 ∙ sym had.0, h.1 ∙ sym had.1))
-    (λ ins enough growth m n h. h.1)
-    (pushes-in-order (spec.HashJoin join) (join_order join) (λ growth m n h. h.1))
-    (λ p ins outs uses h. h) (λ p ins outs seen uses h. h)
+    shelled-of (spec.HashJoin join) 2 refl refl (record { ports = λ growth m n h. h })
 
-abbrev pub state_of : JoiningView → KernelState
-state_of k = kernel_of kind.HashJoin (spec.HashJoin k.join) (own_in k)
+abbrev pub join_state : JoiningView → KernelState
+join_state k = kernel_of kind.HashJoin (spec.HashJoin k.join) (join_own k)
 
 pub join_uses : (k : JoiningView) (i : ℕ) (unworked made : List Table)
     → ((i ≡ 0) × (unworked ≡ [])) ⊎ (is_open k i ≡ true)
-    → IsWorkOf (Some (spec.HashJoin k.join)) (work_of (state_of k) i unworked made)
+    → IsWorkOf (Some (spec.HashJoin k.join)) (work_of (join_state k) i unworked made)
 join_uses k i unworked made comes = record { idle = refl; right_first = λ f. go f comes }
   where
     none : (b : Bool) → unworked ≡ [] → cond b unworked [] ≡ []

@@ -3,8 +3,8 @@ use Rattle.chunk_data.specs.Names.{Row, Table, append_each, row_at, type_at}
 use Rattle.join_proc.specs.declared.join_index.JoinIndex.{JoinIndex}
 use Rattle.join_proc.specs.declared.left_rows.LeftRows.{LeftRows}
 use Rattle.join_proc.specs.declared.left_rows.PlacePairs.{PlacePairs}
-use Rattle.join_proc.specs.declared.left_rows.Start.{Start}
-use Rattle.key_codes.specs.Keys.{HasKey, IsSeenFor, codes_in, kinds_at, places_from, row_code, same_code, with_key}
+use Rattle.join_proc.specs.declared.left_rows.LeftStart.{LeftStart}
+use Rattle.key_codes.specs.Keys.{HasKey, IsSeenFor, codes_in, places_from, plain_types_at, row_code, same_code, with_key}
 use Rattle.proc_api.specs.Prelude.{ColumnType, JoinSpec, KeyPair}
 use Rattle.query_model.specs.Names.{agree, joined_rows}
 use Rattle.std.specs.List.{All, position_or_len}
@@ -47,7 +47,7 @@ pub record AreLinked (places : List ℕ) (from : ℕ) (firsts nexts : List ℕ) 
 
 -- the index of its rows by their columns of the pairs
 pub record IsIndexOf (pairs : List KeyPair) (x : JoinIndex) : Type 0 where
-  pub form : IsSeenFor (kinds_at x.rows.types (right_places pairs)) x.seen
+  pub form : IsSeenFor (plain_types_at x.rows.types (right_places pairs)) x.seen
   pub cells : All (HasKey x.rows.types (right_places pairs)) x.rows.rows
   pub codes : codes_in x.seen ≡ key_codes (right_places pairs) x.rows.rows
   pub many : length x.firsts.items ≡ suc (length (codes_in x.seen))
@@ -56,11 +56,11 @@ pub record IsIndexOf (pairs : List KeyPair) (x : JoinIndex) : Type 0 where
 
 -- ---- a left chunk
 
-abbrev pub no_start : Start
+abbrev pub no_start : LeftStart
 no_start = record { left = 0; next = 0 }
 
 -- the rows at these places that have a first right row, from row i on
-abbrev pub starts_at : (firsts : List ℕ) (rows i : ℕ) → (places : List ℕ) → List Start
+abbrev pub starts_at : (firsts : List ℕ) (rows i : ℕ) → (places : List ℕ) → List LeftStart
 starts_at firsts rows i [] = []
 starts_at firsts rows i (p ∷ places) =
     cond (nat_lt (slice_index_or firsts p 0) rows)
@@ -68,20 +68,20 @@ starts_at firsts rows i (p ∷ places) =
     (starts_at firsts rows (suc i) places)
 
 -- a left row, and a right row that agrees with it
-pub record IsStart (pairs : List KeyPair) (left right : List Row) (s : Start) : Type 0 where
+pub record IsStart (pairs : List KeyPair) (left right : List Row) (s : LeftStart) : Type 0 where
   pub left_within : s.left < length left
   pub right_within : s.next < length right
   pub agrees : agree pairs (row_at left s.left) (row_at right s.next) ≡ true
 
 -- the left row beside each right row from there on that agrees with it
-abbrev pub start_rows : List KeyPair → (left right : List Row) → Start → List Row
+abbrev pub start_rows : List KeyPair → (left right : List Row) → LeftStart → List Row
 start_rows pairs left right s =
     map (λ r. row_at left s.left ++ r)
     (filter (agree pairs (row_at left s.left)) (drop s.next right))
 
 -- the rows that a left chunk still makes
-abbrev pub rows_left : List KeyPair → List Row → LeftRows → List Row
-rows_left pairs right l =
+abbrev pub rows_to_join : List KeyPair → List Row → LeftRows → List Row
+rows_to_join pairs right l =
     flat_map (start_rows pairs l.chunk.rows right) (drop l.at l.starts.items)
 
 abbrev pub AreFit : List KeyPair → List Row → LeftRows → Type 0
@@ -91,10 +91,10 @@ AreFit pairs right l = All (IsStart pairs l.chunk.rows right) l.starts.items
 pub record AreStarts (pairs : List KeyPair) (left right : List Row) (l : LeftRows) : Type 0 where
   pub rows_are : l.chunk.rows ≡ left
   pub fit : AreFit pairs right l
-  pub all_left : rows_left pairs right l ≡ joined_rows pairs left right
+  pub all_left : rows_to_join pairs right l ≡ joined_rows pairs left right
 
 -- it goes on to the right row behind, or where there is none to the next left row
-pub record Moves (left next rows : ℕ) (old new : LeftRows) : Type 0 where
+pub record MovesOn (left next rows : ℕ) (old new : LeftRows) : Type 0 where
   pub chunk : new.chunk ≡ old.chunk
   pub on : next < rows → (new.at ≡ old.at) × (new.starts.items
       ≡ slice_set old.starts.items old.at (record { left = left; next = next }))
@@ -108,13 +108,13 @@ paired left right places =
 -- one pair more was taken of the rows that were left
 pub record PairsMore (pairs : List KeyPair) (right : List Row) (old new : LeftRows)
     (places more : PlacePairs) : Type 0 where
-  pub start : Start
+  pub start : LeftStart
   pub left_within : start.left < length old.chunk.rows
   pub right_within : start.next < length right
   pub lefts : more.lefts.items ≡ places.lefts.items ++ start.left ∷ []
   pub rights : more.rights.items ≡ places.rights.items ++ start.next ∷ []
-  pub rows : rows_left pairs right old
-      ≡ (row_at old.chunk.rows start.left ++ row_at right start.next) ∷ rows_left pairs right new
+  pub rows : rows_to_join pairs right old
+      ≡ (row_at old.chunk.rows start.left ++ row_at right start.next) ∷ rows_to_join pairs right new
 
 -- the pairs at the places were taken
 pub record JoinsRows (pairs : List KeyPair) (right : List Row) (old new : LeftRows)
@@ -122,14 +122,14 @@ pub record JoinsRows (pairs : List KeyPair) (right : List Row) (old new : LeftRo
   pub lefts : All (λ p. p < length old.chunk.rows) places.lefts.items
   pub rights : All (λ p. p < length right) places.rights.items
   pub same : length places.lefts.items ≡ length places.rights.items
-  pub rows : paired old.chunk.rows right places ++ rows_left pairs right new
-      ≡ rows_left pairs right old
+  pub rows : paired old.chunk.rows right places ++ rows_to_join pairs right new
+      ≡ rows_to_join pairs right old
 
 -- a chunk of the next rows, which has some where there are
 pub record JoinsSome (join : JoinSpec) (x : JoinIndex) (old new : LeftRows) (t : Table) : Type 0
   where
     pub types : t.types ≡ old.chunk.types ++ x.rows.types
     pub few : length t.rows ≤ max join.rows 1
-    pub some : (0 < length t.rows) ⊎ (rows_left join.pairs x.rows.rows new ≡ [])
-    pub rows : rows_left join.pairs x.rows.rows old
-        ≡ t.rows ++ rows_left join.pairs x.rows.rows new
+    pub some : (0 < length t.rows) ⊎ (rows_to_join join.pairs x.rows.rows new ≡ [])
+    pub rows : rows_to_join join.pairs x.rows.rows old
+        ≡ t.rows ++ rows_to_join join.pairs x.rows.rows new

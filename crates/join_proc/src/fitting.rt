@@ -1,5 +1,5 @@
 ghost use Rattle.std.specs.Prelude.{◌≡◌, ◌↔◌, IsTrue, IfOk, map};
-ghost use Rattle.proc_api.specs.Keeping.{AreKeyPairs, FitsJoin};
+ghost use Rattle.proc_api.specs.kinds.HashJoin.{AreKeyPairs, FitsJoin};
 ghost use Rattle.join_proc.specs.Joins.{IsKeyPair, left_places, right_places};
 
 use chunk_data::{Chunk, ColumnType, Memory, type_at};

@@ -1,10 +1,10 @@
 ghost use Rattle.std.specs.Prelude.{◌≡◌, ◌<◌, ◌≤◌, suc, [], length, slice_index_or, slice_set, IfOk, OnOk};
 ghost use Rattle.std.specs.List.{All};
-ghost use Rattle.proc_api.specs.Keeping.{AreKeyPairs};
+ghost use Rattle.proc_api.specs.kinds.HashJoin.{AreKeyPairs};
 ghost use Rattle.join_proc.specs.Joins.{AreLinked, AreStarts, IsIndexOf, starts_at};
 
 use crate::fitting::{left_columns, right_columns};
-use crate::left_rows::{LeftRows, Start};
+use crate::left_rows::{LeftRows, LeftStart};
 use chunk_data::{Chunk, Memory};
 use key_codes::{SeenKeys, find_places};
 use query_model::processor_spec::JoinSpec;
@@ -62,7 +62,7 @@ fn starts_of(
     firsts: &[usize],
     places: &[usize],
     rows: usize,
-) -> Result<Vec<Start>, Memory>
+) -> Result<Vec<LeftStart>, Memory>
     requires { All (λ p. p < length firsts.now) places.now }
     ensures { IfOk result (λ v. v.items ≡ starts_at firsts.now rows 0 places.now) }
 {
@@ -70,7 +70,7 @@ fn starts_of(
     for left in 0..places.len() {
         let next = firsts[places[left]];
         if next < rows {
-            starts.push(Start { left, next })?;
+            starts.push(LeftStart { left, next })?;
         }
     }
     Ok(starts)

@@ -1,9 +1,9 @@
 ghost use Rattle.std.specs.Prelude.{◌≡◌, true, IfOk, IfErr, OnOk};
 ghost use Rattle.chunk_data.specs.Names.{Table};
-ghost use Rattle.proc_api.specs.Keeping.{AreKeyPairs};
+ghost use Rattle.proc_api.specs.kinds.HashJoin.{AreKeyPairs};
 ghost use Rattle.proc_shell.specs.Kernels.{Makes, Takes};
 ghost use Rattle.join_proc.specs.Joins.{IsIndexOf};
-ghost use Rattle.join_proc.specs.Joinings.{IsJoining, IsNext, gathered_own, joining_own, own_in, with_end};
+ghost use Rattle.join_proc.specs.Joinings.{IsJoining, IsNextOfJoin, gathered_right, join_own, joining_own, with_end};
 
 use crate::fitting::fits_join;
 use crate::join_index::JoinIndex;
@@ -25,7 +25,7 @@ pub type HashJoin = Shell<Joining>;
 
 /// How far a join has come.
 #[derive(Drop)]
-pub(crate) enum Phase {
+pub(crate) enum JoinPhase {
     /// It gathers the right side.
     Gathering(Chunk),
     /// The right side has ended.
@@ -37,7 +37,7 @@ pub(crate) enum Phase {
 }
 
 // One call in place of an assignment, since what an assignment drops is proved at each.
-fn put_phase(old: &mut Phase, phase: Phase)
+fn put_phase(old: &mut JoinPhase, phase: JoinPhase)
     ensures { old.new ≡ phase }
 {
     *old = phase;
@@ -47,17 +47,17 @@ fn put_phase(old: &mut Phase, phase: Phase)
 #[derive(Drop)]
 pub struct Joining {
     join: JoinSpec,
-    phase: Phase,
+    phase: JoinPhase,
 }
 
 impl Model for Joining {
-    ghost use Rattle.join_proc.specs.Joinings.{IsPhaseFor, JoiningView, view_of};
+    ghost use Rattle.join_proc.specs.Joinings.{IsJoinPhase, JoiningView, view_of};
 
     ghost Value = { JoiningView };
 
     ghost view = { λ k. view_of k.join k.phase };
 
-    ghost invariant = { λ k. IsPhaseFor k.join k.phase };
+    ghost invariant = { λ k. IsJoinPhase k.join k.phase };
 }
 
 impl Joining {
@@ -68,18 +68,18 @@ impl Joining {
     fn note_end(&mut self)
         ensures { self.new ≡ with_end self.old }
     {
-        match replace(&mut self.phase, Phase::Failed) {
-            Phase::Gathering(rows) => put_phase(&mut self.phase, Phase::Ended(rows)),
+        match replace(&mut self.phase, JoinPhase::Failed) {
+            JoinPhase::Gathering(rows) => put_phase(&mut self.phase, JoinPhase::Ended(rows)),
             other => put_phase(&mut self.phase, other),
         }
     }
 
     // Rows, if some can be made.
     fn next_offer(&self) -> Offer
-        ensures { IsNext self.now result }
+        ensures { IsNextOfJoin self.now result }
     {
         match &self.phase {
-            Phase::Joining(_, left) => {
+            JoinPhase::Joining(_, left) => {
                 if left.is_joined() {
                     Offer::Wants
                 } else {
@@ -103,11 +103,11 @@ impl Joining {
         requires pairs { AreKeyPairs self.old.join }
         ensures join { self.new.join ≡ self.old.join }
         ensures takes { IfOk result (Takes (spec.HashJoin self.old.join)
-            (gathered_own index.rows) 0 chunk (own_in self.new)) }
+            (gathered_right index.rows) 0 chunk (join_own self.new)) }
     {
         match index.left_rows(alloc, &self.join, chunk) {
             Ok(left) => {
-                put_phase(&mut self.phase, Phase::Joining(index, left));
+                put_phase(&mut self.phase, JoinPhase::Joining(index, left));
                 Ok(None)
             }
             Err(memory) => Err(memory),
@@ -124,16 +124,16 @@ impl Joining {
         requires { IsJoining self.old.join index left }
         ensures join { self.new.join ≡ self.old.join }
         ensures makes { IfOk result (Makes (spec.HashJoin self.old.join)
-            (joining_own self.old.join index left) (own_in self.new)) }
+            (joining_own self.old.join index left) (join_own self.new)) }
         ensures fails { IfErr result (λ f. f ≡ fault.Memory) }
     {
         if left.is_joined() {
-            put_phase(&mut self.phase, Phase::Joining(index, left));
+            put_phase(&mut self.phase, JoinPhase::Joining(index, left));
             return Ok(None);
         }
         match left.next_chunk(alloc, &self.join, &index) {
             Ok(chunk) => {
-                put_phase(&mut self.phase, Phase::Joining(index, left));
+                put_phase(&mut self.phase, JoinPhase::Joining(index, left));
                 Ok(Some(chunk))
             }
             Err(_) => Err(WorkFault::Memory),
@@ -144,11 +144,11 @@ impl Joining {
 impl Kernel for Joining {
     ghost use Rattle.std.specs.Prelude.{refl};
     ghost use Rattle.query_model.specs.declared.processor_spec.Kind.TheVariants as kind;
-    ghost use Rattle.join_proc.specs.Joinings.{is_open, join_shelled, join_uses, state_of};
+    ghost use Rattle.join_proc.specs.Joinings.{is_open, join_shelled, join_state, join_uses};
 
     ghost kind_is = { kind.HashJoin };
 
-    ghost state = { state_of };
+    ghost state = { join_state };
 
     ghost open_to = { is_open };
 
@@ -167,7 +167,7 @@ impl Kernel for Joining {
             Spec::HashJoin(join) => match Chunk::new(alloc, &join.right) {
                 Ok(rows) => Ok(Joining {
                     join,
-                    phase: Phase::Gathering(rows),
+                    phase: JoinPhase::Gathering(rows),
                 }),
                 Err(memory) => Err(memory),
             },
@@ -190,8 +190,8 @@ impl Kernel for Joining {
 
     fn wants(&self, input: usize) -> bool {
         match &self.phase {
-            Phase::Gathering(_) => input == 1,
-            Phase::Joining(_, left) => left.is_joined(),
+            JoinPhase::Gathering(_) => input == 1,
+            JoinPhase::Joining(_, left) => left.is_joined(),
             _ => true,
         }
     }
@@ -200,16 +200,16 @@ impl Kernel for Joining {
         if !fits_join(&self.join, input, &chunk) {
             return Ok(None);
         }
-        match replace(&mut self.phase, Phase::Failed) {
-            Phase::Gathering(mut rows) => {
+        match replace(&mut self.phase, JoinPhase::Failed) {
+            JoinPhase::Gathering(mut rows) => {
                 // Until the right side's end is noted no left chunk is wanted.
                 if input != 1 {
-                    put_phase(&mut self.phase, Phase::Gathering(rows));
+                    put_phase(&mut self.phase, JoinPhase::Gathering(rows));
                     return Ok(None);
                 }
                 match rows.append(chunk) {
                     Ok(()) => {
-                        put_phase(&mut self.phase, Phase::Gathering(rows));
+                        put_phase(&mut self.phase, JoinPhase::Gathering(rows));
                         Ok(None)
                     }
                     Err(_) => Err(Memory),
@@ -217,21 +217,21 @@ impl Kernel for Joining {
             }
             // Once the right side's end was noted no chunk of it comes.
             _ if input != 0 => Err(Memory),
-            Phase::Ended(rows) => match JoinIndex::new(alloc, &self.join, rows) {
+            JoinPhase::Ended(rows) => match JoinIndex::new(alloc, &self.join, rows) {
                 Ok(index) => self.take_left(alloc, index, chunk),
                 Err(memory) => Err(memory),
             },
-            Phase::Joining(index, left) => {
+            JoinPhase::Joining(index, left) => {
                 drop(left);
                 self.take_left(alloc, index, chunk)
             }
-            Phase::Failed => Err(Memory),
+            JoinPhase::Failed => Err(Memory),
         }
     }
 
     fn make(&mut self, alloc: Global) -> Result<Option<Chunk>, WorkFault> {
-        match replace(&mut self.phase, Phase::Failed) {
-            Phase::Joining(index, left) => self.make_some(alloc, index, left),
+        match replace(&mut self.phase, JoinPhase::Failed) {
+            JoinPhase::Joining(index, left) => self.make_some(alloc, index, left),
             other => {
                 put_phase(&mut self.phase, other);
                 Ok(None)

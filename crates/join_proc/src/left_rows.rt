@@ -1,6 +1,6 @@
 ghost use Rattle.std.specs.Prelude.{◌≡◌, leb, ◌<◌, ◌≤◌, ◌⊎◌, max, [], length, slice_index_or, OnOk, IfOk};
 ghost use Rattle.std.specs.List.{All};
-ghost use Rattle.join_proc.specs.Joins.{AreFit, IsIndexOf, JoinsRows, JoinsSome, Moves, PairsMore, no_start, rows_left};
+ghost use Rattle.join_proc.specs.Joins.{AreFit, IsIndexOf, JoinsRows, JoinsSome, MovesOn, PairsMore, no_start, rows_to_join};
 
 use crate::join_index::JoinIndex;
 use chunk_data::{Chunk, Memory};
@@ -9,7 +9,7 @@ use std::alloc::Global;
 
 /// A row of the left side, and the next right row that it agrees with.
 #[derive(Clone, Copy, Drop)]
-pub(crate) struct Start {
+pub(crate) struct LeftStart {
     pub(crate) left: usize,
     pub(crate) next: usize,
 }
@@ -19,7 +19,7 @@ pub(crate) struct Start {
 #[derive(Drop)]
 pub(crate) struct LeftRows {
     pub(crate) chunk: Chunk,
-    pub(crate) starts: Vec<Start>,
+    pub(crate) starts: Vec<LeftStart>,
     pub(crate) at: usize,
 }
 
@@ -39,7 +39,7 @@ impl LeftRows {
     }
 
     // The next left row, and the next right row of it.
-    fn start(&self) -> Start
+    fn start(&self) -> LeftStart
         requires { self.now.at < length self.now.starts.items }
         ensures { result ≡ slice_index_or self.now.starts.items self.now.at no_start }
     {
@@ -47,13 +47,13 @@ impl LeftRows {
     }
 
     // Goes on to the right row behind, or to the next left row where there is none.
-    fn advance(&mut self, start: Start, next: usize, rows: usize)
+    fn advance(&mut self, start: LeftStart, next: usize, rows: usize)
         requires { self.old.at < length self.old.starts.items }
-        ensures { Moves start.left next rows self.old self.new }
+        ensures { MovesOn start.left next rows self.old self.new }
     {
         if next < rows {
             let left = start.left;
-            self.starts[self.at] = Start { left, next };
+            self.starts[self.at] = LeftStart { left, next };
         } else {
             self.at += 1;
         }
@@ -98,7 +98,7 @@ impl LeftRows {
             (JoinsRows join.now.pairs index.now.rows.rows self.old self.new pairs.new) }
         ensures few { OnOk result (length pairs.new.lefts.items ≤ most) }
         ensures some { OnOk result ((length pairs.new.lefts.items ≡ most)
-            ⊎ (rows_left join.now.pairs index.now.rows.rows self.new ≡ [])) }
+            ⊎ (rows_to_join join.now.pairs index.now.rows.rows self.new ≡ [])) }
     {
         for _done in 0..most {
             if self.is_joined() {

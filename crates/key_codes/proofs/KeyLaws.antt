@@ -5,7 +5,7 @@ use Rattle.chunk_data.specs.declared.typed_value.ColumnType.TheVariants as colum
 use Rattle.chunk_data.specs.Values.{is_plain_text, is_text, plain_type}
 use Rattle.chunk_data.specs.declared.typed_value.PlainType.{PlainType}
 use Rattle.chunk_data.specs.declared.typed_value.PlainType.TheVariants as plain
-use Rattle.key_codes.proofs.Prelude.{All, All-map, AllByRecursion, AreCells, ColumnType, FindsCode, FindsCodes, HasKey, IsCell, IsSame, Row, Value, append-nil, at_drop_more, cases_eq, cases_lt, drop_all, drop_at, first_kind, first_of, flat_map-append, from_le_bytes-to_le_bytes_8, get_or-map, get_or_default, key_at, key_code, length-map, map-map, row_code, type_at, list_any, map-append, nat_list_eq_equiv, places_from, position_or_len, same_code, same_row, same_row_is, same_text, take-suc, take_at, to_le_bytes, value_at, value_bytes, value_code, with_key, from_le_bytes, cast_unsigned, cast_signed, kinds_at}
+use Rattle.key_codes.proofs.Imports.{All, All-map, AllByRecursion, AreKeyValues, ColumnType, FindsCode, FindsCodes, HasKey, IsCell, IsSame, Row, Value, append-nil, at_drop_more, cases_eq, cases_lt, drop_all, drop_at, first_plain_type, first_key_column, flat_map-append, from_le_bytes-to_le_bytes_8, get_or-map, get_or_default, key_at, key_code, length-map, map-map, row_code, type_at, list_any, map-append, nat_list_eq_equiv, places_from, position_or_len, same_code, same_row, same_row_is, same_text, take-suc, take_at, to_le_bytes, value_at, value_bytes, value_code, with_key, from_le_bytes, cast_unsigned, cast_signed, plain_types_at}
 use Rattle.std.proofs.lemmas.Grind.{common_steps}
 use Rattle.key_codes.proofs.CodeLaws.{map-insert}
 
@@ -50,7 +50,7 @@ values-one t (Text a) (Text b) xs ys p q e =
     record { value = ap Text r.0; rest = r.1 }
 values-one t v w xs ys p q e = grind arith
 
-bytes-one : (types : List PlainType) (a b : Row) → AreCells types a → AreCells types b
+bytes-one : (types : List PlainType) (a b : Row) → AreKeyValues types a → AreKeyValues types b
     → flat_map value_bytes a ≡ flat_map value_bytes b → a ≡ b
 bytes-one [] [] [] p q e = refl
 bytes-one [] (v ∷ a) b p q e = absurd p
@@ -63,7 +63,7 @@ value-one : (t : PlainType) (v w : Value) → IsCell t v → IsCell t w
     → value_code v ≡ value_code w → v ≡ w
 value-one t v w p q e = grind arith
 
-cells-long : (types : List PlainType) (a : Row) → AreCells types a → length a ≡ length types
+cells-long : (types : List PlainType) (a : Row) → AreKeyValues types a → length a ≡ length types
 cells-long [] [] h = refl
 cells-long (t ∷ types) (v ∷ a) h = ap suc (cells-long types a h.1)
 cells-long _ _ h = absurd h
@@ -71,7 +71,7 @@ cells-long _ _ h = absurd h
 pub many-code : (key : Row) → length key ≢ 1 → key_code key ≡ flat_map value_bytes key
 many-code key ne = grind (arith, common_steps)
 
-key-one : (types : List PlainType) (a b : Row) → AreCells types a → AreCells types b
+key-one : (types : List PlainType) (a b : Row) → AreKeyValues types a → AreKeyValues types b
     → key_code a ≡ key_code b → a ≡ b
 key-one types a b p q e =
     let l = cells-long types a p in
@@ -82,7 +82,7 @@ key-one types a b p q e =
           (sym (many-code a (λ f. ne (sym l ∙ f))) ∙ e ∙ many-code b (λ f. ne (sym m ∙ f)))
     ]
   where
-    single : (types : List PlainType) (a b : Row) → AreCells types a → AreCells types b
+    single : (types : List PlainType) (a b : Row) → AreKeyValues types a → AreKeyValues types b
         → length a ≡ 1 → length b ≡ 1 → key_code a ≡ key_code b → a ≡ b
     single [] a b p q l m e = absurd (let n = cells-long [] a p in omega (arith, n, l))
     single (t ∷ types) [] b p q l m e = absurd p
@@ -97,7 +97,7 @@ both-or-none : (a b : Bool) (P : Type 0) → (a ≡ true → P) → (P → b ≡
 both-or-none a b P f g h k = grind (arith, common_steps)
 
 -- Keys have one code exactly where they are one.
-pub codes-agree : (types : List PlainType) (a b : Row) → AreCells types a → AreCells types b
+pub codes-agree : (types : List PlainType) (a b : Row) → AreKeyValues types a → AreKeyValues types b
     → same_code (key_code a) (key_code b) ≡ same_row a b
 codes-agree types a b p q =
     both-or-none _ _ (a ≡ b) (λ s. key-one types a b p q (same_code_is.one _ _ s))
@@ -107,45 +107,46 @@ codes-agree types a b p q =
 -- ---- codes in place of keys
 
 module _ (types : List PlainType) where
-  place-key : (k : Row) → AreCells types k → (keys : List Row)
-      → AllByRecursion (AreCells types) keys
+  place-key : (k : Row) → AreKeyValues types k → (keys : List Row)
+      → AllByRecursion (AreKeyValues types) keys
       → position_or_len (same_code (key_code k)) (map key_code keys)
       ≡ position_or_len (same_row k) keys
   place-key k p [] h = refl
   place-key k p (x ∷ keys) h =
       ap₂ (λ b n. cond (not b) (1 + n) 0) (codes-agree types k x p h.0) (place-key k p keys h.1)
 
-  any-key : (k : Row) → AreCells types k → (keys : List Row) → AllByRecursion (AreCells types) keys
+  any-key : (k : Row) → AreKeyValues types k → (keys : List Row)
+      → AllByRecursion (AreKeyValues types) keys
       → list_any (same_code (key_code k)) (map key_code keys) ≡ list_any (same_row k) keys
   any-key k p [] h = refl
   any-key k p (x ∷ keys) h =
       ap₂ (λ b c. b || c) (codes-agree types k x p h.0) (any-key k p keys h.1)
 
-  with-code : (adds : Bool) (k : Row) → AreCells types k → (keys : List Row)
-      → AllByRecursion (AreCells types) keys
+  with-code : (adds : Bool) (k : Row) → AreKeyValues types k → (keys : List Row)
+      → AllByRecursion (AreKeyValues types) keys
       → with_key adds same_code (map key_code keys) (key_code k)
       ≡ map key_code (with_key adds same_row keys k)
   with-code true k p keys h = map-insert key_code _ _ keys k (any-key k p keys h)
   with-code false k p keys h = refl
 
-  with-cells : (adds : Bool) (k : Row) → AreCells types k → (keys : List Row)
-      → AllByRecursion (AreCells types) keys
-      → AllByRecursion (AreCells types) (with_key adds same_row keys k)
+  with-cells : (adds : Bool) (k : Row) → AreKeyValues types k → (keys : List Row)
+      → AllByRecursion (AreKeyValues types) keys
+      → AllByRecursion (AreKeyValues types) (with_key adds same_row keys k)
   with-cells false k p keys h = h
   with-cells true k p keys h = go (list_any (same_row k) keys)
     where
-      behind : (l : List Row) → AllByRecursion (AreCells types) l
-          → AllByRecursion (AreCells types) (l ++ k ∷ [])
+      behind : (l : List Row) → AllByRecursion (AreKeyValues types) l
+          → AllByRecursion (AreKeyValues types) (l ++ k ∷ [])
       behind [] g = (p, tt)
       behind (x ∷ l) g = (g.0, behind l g.1)
 
-      go : (b : Bool) → AllByRecursion (AreCells types) (cond b keys (keys ++ k ∷ []))
+      go : (b : Bool) → AllByRecursion (AreKeyValues types) (cond b keys (keys ++ k ∷ []))
       go true = h
       go false = behind keys h
 
   -- The places of keys are those of their codes,
-  pub places-keys : (adds : Bool) (ks : List Row) → AllByRecursion (AreCells types) ks
-      → (keys : List Row) → AllByRecursion (AreCells types) keys
+  pub places-keys : (adds : Bool) (ks : List Row) → AllByRecursion (AreKeyValues types) ks
+      → (keys : List Row) → AllByRecursion (AreKeyValues types) keys
       → places_from adds same_code (map key_code keys) (map key_code ks)
       ≡ places_from adds same_row keys ks
   places-keys adds [] p keys h = refl
@@ -155,8 +156,8 @@ module _ (types : List PlainType) where
       ∙ places-keys adds ks p.1 (with_key adds same_row keys k) (with-cells adds k p.0 keys h))
 
   -- and the codes that are seen then are those of the keys.
-  pub codes-keys : (adds : Bool) (ks : List Row) → AllByRecursion (AreCells types) ks
-      → (keys : List Row) → AllByRecursion (AreCells types) keys
+  pub codes-keys : (adds : Bool) (ks : List Row) → AllByRecursion (AreKeyValues types) ks
+      → (keys : List Row) → AllByRecursion (AreKeyValues types) keys
       → fold (with_key adds same_code) (map key_code keys) (map key_code ks)
       ≡ map key_code (fold (with_key adds same_row) keys ks)
   codes-keys adds [] p keys h = refl
@@ -188,7 +189,7 @@ bytes-next places k row code v lt e is =
     ∙ flat_map-append value_bytes key (value_at row (get_or places k 0) ∷ []))
 
 cells-append : (types : List PlainType) (key : Row) (t : PlainType) (v : Value)
-    → AreCells types key → IsCell t v → AreCells (types ++ t ∷ []) (key ++ v ∷ [])
+    → AreKeyValues types key → IsCell t v → AreKeyValues (types ++ t ∷ []) (key ++ v ∷ [])
 cells-append [] [] t v h p = (p, tt)
 cells-append (u ∷ types) (w ∷ key) t v h p = (h.0, cells-append types key t v h.1 p)
 cells-append _ _ t v h p = absurd h
@@ -200,12 +201,14 @@ pub cells-next : (types : List ColumnType) (places : List ℕ) (k : ℕ) (row : 
 cells-next types places k row h lt cell =
     let next : k + 1 ≡ suc k = omega arith in
     let more = ap (λ n. take n places) next ∙ take-suc places k 0 lt in
-    let kinds = ap (kinds_at types) more
+    let kinds = ap (plain_types_at types) more
     ∙ map-append (λ c. plain_type (type_at types c)) (take k places) (get_or places k 0 ∷ []) in
-    subst (AreCells (kinds_at types (take (k + 1) places))) (sym (key-next places k row lt))
-    (subst (λ ts. AreCells ts (key_at (take k places) row ++ value_at row (get_or places k 0) ∷ []))
+    subst (AreKeyValues (plain_types_at types (take (k + 1) places)))
+    (sym (key-next places k row lt))
+    (subst (λ ts. AreKeyValues ts
+    (key_at (take k places) row ++ value_at row (get_or places k 0) ∷ []))
     (sym kinds)
-    (cells-append (kinds_at types (take k places)) (key_at (take k places) row) _ _ h cell))
+    (cells-append (plain_types_at types (take k places)) (key_at (take k places) row) _ _ h cell))
 
 -- the cell of a column of the rows
 pub cell-value : (rows : List Row) (c i : ℕ) (vs : List Value)
@@ -220,7 +223,8 @@ cell-type types c kind v w e lt is h = grind (arith, get_or_default)
 
 -- a key of one value
 pub one-cells : (types : List ColumnType) (places : List ℕ) (row : Row) → length places ≡ 1
-    → IsCell (plain_type (type_at types (first_of places))) (value_at row (first_of places))
+    → IsCell (plain_type (type_at types (first_key_column places)))
+    (value_at row (first_key_column places))
     → HasKey types places row
 one-cells types [] row one cell = absurd (omega (arith, one))
 one-cells types (c ∷ []) row one cell = (cell, tt)
@@ -278,7 +282,7 @@ whole-codes (c ∷ places) rows e = absurd (omega (arith, e))
 
 -- a key of one
 pub one-codes : (places : List ℕ) (rows : List Row) (vs : List Value) → length places ≡ 1
-    → vs ≡ map (λ (row : Row). value_at row (first_of places)) rows
+    → vs ≡ map (λ (row : Row). value_at row (first_key_column places)) rows
     → map value_code vs ≡ map (row_code places) rows
 one-codes [] rows vs one e = absurd (omega (arith, one))
 one-codes (c ∷ []) rows vs one e =
@@ -286,19 +290,20 @@ one-codes (c ∷ []) rows vs one e =
 one-codes (c ∷ d ∷ places) rows vs one e = absurd (omega (arith, one))
 
 pub one-keys : (types : List ColumnType) (places : List ℕ) (rows : List Row) (kind : ColumnType)
-    (vs : List Value) → length places ≡ 1 → kind ≡ get_or types (first_of places) kind
-    → first_of places < length types
-    → vs ≡ map (λ (row : Row). value_at row (first_of places)) rows
+    (vs : List Value) → length places ≡ 1 → kind ≡ get_or types (first_key_column places) kind
+    → first_key_column places < length types
+    → vs ≡ map (λ (row : Row). value_at row (first_key_column places)) rows
     → All (IsCell (plain_type kind)) vs
     → All (HasKey types places) rows
 one-keys types places rows kind vs one e lt is cells = λ k d less.
     let v = get_or vs k (Text []) in
-    let long = ap length is ∙ length-map rows (λ (row : Row). value_at row (first_of places)) in
+    let long = ap length is ∙ length-map rows
+    (λ (row : Row). value_at row (first_key_column places)) in
     let within : k < length vs = omega (arith, long, less) in
     one-cells types places (get_or rows k d) one
-    (cell-type types (first_of places) kind v _ e lt
+    (cell-type types (first_key_column places) kind v _ e lt
     (ap (λ l. get_or l k (Text [])) is
-    ∙ get_or-map (λ (row : Row). value_at row (first_of places)) rows k d (Text []) less)
+    ∙ get_or-map (λ (row : Row). value_at row (first_key_column places)) rows k d (Text []) less)
     (cells k (Text []) within))
 
 -- texts are their own codes
@@ -319,17 +324,19 @@ kind-at types c kind e lt = sym (e ∙ get_or_default types c kind column.Text l
 
 -- the form of a key of one value
 pub first-kind : (types : List ColumnType) (places : List ℕ) → 0 < length places
-    → first_kind (kinds_at types places) ≡ plain_type (type_at types (first_of places))
+    → first_plain_type (plain_types_at types places)
+    ≡ plain_type (type_at types (first_key_column places))
 first-kind types places some =
     get_or-map (λ c. plain_type (type_at types c)) places 0 0 plain.Text some
 
 pub kinds-long : (types : List ColumnType) (places : List ℕ)
-    → length (kinds_at types places) ≡ length places
+    → length (plain_types_at types places) ≡ length places
 kinds-long types places = length-map places (λ c. plain_type (type_at types c))
 
 pub one-form : (types : List ColumnType) (places : List ℕ) (b : Bool)
-    → length (kinds_at types places) ≡ 1 → is_plain_text (first_kind (kinds_at types places)) ≡ b
-    → (length places ≡ 1) × (is_text (type_at types (first_of places)) ≡ b)
+    → length (plain_types_at types places) ≡ 1
+    → is_plain_text (first_plain_type (plain_types_at types places)) ≡ b
+    → (length places ≡ 1) × (is_text (type_at types (first_key_column places)) ≡ b)
 one-form types places b one e =
     let long = sym (kinds-long types places) ∙ one in
     (long, sym (ap is_plain_text (first-kind types places (omega (arith, long)))) ∙ e)

@@ -1,3 +1,3 @@
-mod Prelude
+mod Imports
 mod CodeLaws
 pub mod KeyLaws

@@ -18,16 +18,16 @@ abbrev pub key_at : List ℕ → Row → Row
 key_at places row = map (value_at row) places
 
 -- the plain types of the key's values
-abbrev pub kinds_at : List ColumnType → List ℕ → List PlainType
-kinds_at types places = map (λ c. plain_type (type_at types c)) places
+abbrev pub plain_types_at : List ColumnType → List ℕ → List PlainType
+plain_types_at types places = map (λ c. plain_type (type_at types c)) places
 
 -- the first of them, where there is one
-abbrev pub first_kind : List PlainType → PlainType
-first_kind kinds = slice_index_or kinds 0 plain.Text
+abbrev pub first_plain_type : List PlainType → PlainType
+first_plain_type kinds = slice_index_or kinds 0 plain.Text
 
 -- the key's first column
-abbrev pub first_of : List ℕ → ℕ
-first_of places = slice_index_or places 0 0
+abbrev pub first_key_column : List ℕ → ℕ
+first_key_column places = slice_index_or places 0 0
 
 -- a number's eight bytes, or a text's length and bytes
 abbrev pub value_bytes : Value → List ℕ
@@ -57,14 +57,14 @@ IsCell t (UInt n) = (t ≡ plain.UInt64) × (n < 2 ^ 64)
 IsCell t (Text bytes) = (t ≡ plain.Text) × (length bytes < 2 ^ 64)
 
 -- the values of columns of the plain types
-abbrev pub AreCells : List PlainType → Row → Type 0
-AreCells [] [] = Unit {0}
-AreCells (t ∷ kinds) (v ∷ key) = IsCell t v × AreCells kinds key
-AreCells kinds key = ⊥
+abbrev pub AreKeyValues : List PlainType → Row → Type 0
+AreKeyValues [] [] = Unit {0}
+AreKeyValues (t ∷ kinds) (v ∷ key) = IsCell t v × AreKeyValues kinds key
+AreKeyValues kinds key = ⊥
 
 -- the row has a key of columns of the types
 abbrev pub HasKey : List ColumnType → List ℕ → Row → Type 0
-HasKey types places row = AreCells (kinds_at types places) (key_at places row)
+HasKey types places row = AreKeyValues (plain_types_at types places) (key_at places row)
 
 module _ {X : Type 0} (adds : Bool) (same : X → X → Bool) where
   -- a key that isn't there goes to the end, where keys are added
@@ -111,5 +111,6 @@ codes_in (seen.Bytes codes) = byte_codes codes
 abbrev pub IsSeenFor : List PlainType → SeenKeys → Type 0
 IsSeenFor kinds (seen.Whole some) = length kinds ≡ 0
 IsSeenFor kinds (seen.Numbers numbers) =
-    (length kinds ≡ 1) × (is_plain_text (first_kind kinds) ≡ false)
-IsSeenFor kinds (seen.Bytes codes) = length kinds ≡ 1 → is_plain_text (first_kind kinds) ≡ true
+    (length kinds ≡ 1) × (is_plain_text (first_plain_type kinds) ≡ false)
+IsSeenFor kinds (seen.Bytes codes) =
+    length kinds ≡ 1 → is_plain_text (first_plain_type kinds) ≡ true

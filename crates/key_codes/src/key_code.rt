@@ -1,6 +1,6 @@
 ghost use Rattle.std.specs.Prelude.{◌≡◌, ◌<◌, [], fold, length, map, OnOk, IfOk};
 ghost use Rattle.std.specs.List.{All};
-ghost use Rattle.key_codes.specs.Keys.{HasKey, IsSeenFor, codes_in, kinds_at, places_from, row_code, same_code, with_key};
+ghost use Rattle.key_codes.specs.Keys.{HasKey, IsSeenFor, codes_in, places_from, plain_types_at, row_code, same_code, with_key};
 
 use crate::places::{bits_of, code_places, number_places, text_places, whole_places};
 use chunk_data::{Chunk, ColumnType, Memory, type_at};
@@ -22,7 +22,7 @@ impl SeenKeys {
     /// No keys, of the columns at the places.
     pub fn new(alloc: Global, types: &[ColumnType], places: &[usize]) -> SeenKeys
         ensures none { codes_in result ≡ [] }
-        ensures form { IsSeenFor (kinds_at types.now places.now) result }
+        ensures form { IsSeenFor (plain_types_at types.now places.now) result }
     {
         if places.len() == 0 {
             return SeenKeys::Whole(false);
@@ -55,7 +55,7 @@ pub fn find_places(
     chunk: &Chunk,
 ) -> Result<Vec<usize>, Memory>
     requires within { All (λ c. c < length chunk.now.types) places.now }
-    requires form { IsSeenFor (kinds_at chunk.now.types places.now) seen.old }
+    requires form { IsSeenFor (plain_types_at chunk.now.types places.now) seen.old }
     ensures places { IfOk result
         (λ v. v.items ≡ places_from adds same_code (codes_in seen.old)
         (map (row_code places.now) chunk.now.rows)) }
@@ -63,7 +63,7 @@ pub fn find_places(
         (codes_in seen.new ≡ fold (with_key adds same_code) (codes_in seen.old)
         (map (row_code places.now) chunk.now.rows)) }
     ensures cells { OnOk result (All (HasKey chunk.now.types places.now) chunk.now.rows) }
-    ensures form { OnOk result (IsSeenFor (kinds_at chunk.now.types places.now) seen.new) }
+    ensures form { OnOk result (IsSeenFor (plain_types_at chunk.now.types places.now) seen.new) }
 {
     match seen {
         SeenKeys::Whole(some) => whole_places(some, alloc, adds, chunk.rows()),

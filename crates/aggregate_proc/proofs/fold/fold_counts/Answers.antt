@@ -1,4 +1,6 @@
-use Rattle.aggregate_proc.proofs.Cited.{counted-first, counted-one, step-push, step-set, ap, arith, get_or, get_or_default, ◌∙◌}
+use Rattle.aggregate_proc.proofs.NextLaws.{counted-first, counted-one}
+use Rattle.aggregate_proc.proofs.PutLaws.{step-push, step-set}
+use Rattle.aggregate_proc.proofs.Imports.{ap, arith, get_or, get_or_default, ◌∙◌}
 use Rattle.aggregate_proc.proofs.fold.fold_counts.Goals.{else-place-len+in_ok-push, then-place-len}
 use Rattle.chunk_data.specs.declared.typed_value.Value.TheVariants as value
 use Rattle.aggregate_proc.specs.declared.fold.Fold.TheVariants as fold

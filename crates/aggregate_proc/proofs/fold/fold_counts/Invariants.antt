@@ -1,4 +1,5 @@
-use Rattle.aggregate_proc.proofs.Cited.{left_to_put, List, Value, length, map, ◌≡◌}
+use Rattle.aggregate_proc.proofs.PutLaws.{left_to_put}
+use Rattle.aggregate_proc.proofs.Imports.{List, Value, length, map, ◌≡◌}
 use Rattle.chunk_data.specs.declared.typed_value.Value.TheVariants as value
 use Rattle.aggregate_proc.specs.declared.fold.Fold.TheVariants as fold
 use Rattle.aggregate_proc.proofs.fold.fold_counts.Given as goal

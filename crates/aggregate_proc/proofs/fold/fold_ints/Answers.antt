@@ -1,4 +1,6 @@
-use Rattle.aggregate_proc.proofs.Cited.{◌∙◌, sym, ap, get_or, pos, w64, SFits, arith, rules, to_z-of_z, starts-int, push-next, set-next}
+use Rattle.aggregate_proc.proofs.Imports.{SFits, ap, arith, get_or, pos, rules, sym, to_z-of_z, w64, ◌∙◌}
+use Rattle.aggregate_proc.proofs.NextLaws.{starts-int}
+use Rattle.aggregate_proc.proofs.PutLaws.{push-next, set-next}
 use Rattle.chunk_data.specs.declared.typed_value.Value.TheVariants as value
 use Rattle.aggregate_proc.proofs.fold.fold_ints.Goals.{then-place-len, else-place-len+in_ok-push}
 use Rattle.aggregate_proc.proofs.fold.fold_ints.Goals as goal

@@ -1,4 +1,6 @@
-use Rattle.aggregate_proc.proofs.Cited.{◌≡◌, ◌∙◌, [], sym, ap, ap₂, cond, get_or, arith, next_folded, starts-text, keep-next, push-next, set-next}
+use Rattle.aggregate_proc.proofs.Imports.{[], ap, ap₂, arith, cond, get_or, next_folded, sym, ◌∙◌, ◌≡◌}
+use Rattle.aggregate_proc.proofs.NextLaws.{starts-text}
+use Rattle.aggregate_proc.proofs.PutLaws.{keep-next, push-next, set-next}
 use Rattle.chunk_data.specs.declared.typed_value.Value.TheVariants as value
 use Rattle.aggregate_proc.proofs.fold.fold_texts.Goals.{then-place-len+then-replaces+in_ok-states, then-place-len+else-replaces, else-place-len+in_ok-from_slice+in_ok-push}
 use Rattle.aggregate_proc.proofs.fold.fold_texts.Goals as goal

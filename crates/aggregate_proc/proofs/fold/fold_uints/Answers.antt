@@ -1,4 +1,6 @@
-use Rattle.aggregate_proc.proofs.Cited.{◌∙◌, sym, ap, get_or, arith, starts-uint, push-next, set-next}
+use Rattle.aggregate_proc.proofs.Imports.{ap, arith, get_or, sym, ◌∙◌}
+use Rattle.aggregate_proc.proofs.NextLaws.{starts-uint}
+use Rattle.aggregate_proc.proofs.PutLaws.{push-next, set-next}
 use Rattle.chunk_data.specs.declared.typed_value.Value.TheVariants as value
 use Rattle.aggregate_proc.proofs.fold.fold_uints.Goals.{then-place-len, else-place-len+in_ok-push}
 use Rattle.aggregate_proc.proofs.fold.fold_uints.Goals as goal

@@ -1,4 +1,5 @@
-use Rattle.aggregate_proc.proofs.Cited.{◌≡◌, map, left_to_put}
+use Rattle.aggregate_proc.proofs.Imports.{map, ◌≡◌}
+use Rattle.aggregate_proc.proofs.PutLaws.{left_to_put}
 use Rattle.chunk_data.specs.declared.typed_value.Value.TheVariants as value
 use Rattle.aggregate_proc.proofs.fold.fold_uints.Given as goal
 

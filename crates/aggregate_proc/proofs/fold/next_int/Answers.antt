@@ -1,4 +1,5 @@
-use Rattle.aggregate_proc.proofs.Cited.{arith, to_z-of_z, added-int, greatest-int, least-int}
+use Rattle.aggregate_proc.proofs.Imports.{arith, to_z-of_z}
+use Rattle.aggregate_proc.proofs.NextLaws.{added-int, greatest-int, least-int}
 use Rattle.aggregate_proc.proofs.fold.next_int.Goals as goal
 
 pub returns-in-Add : goal.returns-in-Add

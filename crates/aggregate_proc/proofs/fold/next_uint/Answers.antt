@@ -1,4 +1,4 @@
-use Rattle.aggregate_proc.proofs.Prelude.{arith, common_steps, chosen, combined, wrapped}
+use Rattle.aggregate_proc.proofs.Imports.{arith, common_steps, chosen, combined, wrapped}
 use Rattle.aggregate_proc.proofs.fold.next_uint.Goals as goal
 
 pub returns-in-Add : goal.returns-in-Add

@@ -1,4 +1,4 @@
-use Rattle.aggregate_proc.proofs.Prelude.{arith, chosen, combined}
+use Rattle.aggregate_proc.proofs.Imports.{arith, chosen, combined}
 use Rattle.aggregate_proc.proofs.fold.replaces.Goals as goal
 
 pub returns-in-Least : goal.returns-in-Least

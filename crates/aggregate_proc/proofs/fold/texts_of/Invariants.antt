@@ -1,4 +1,4 @@
-use Rattle.aggregate_proc.proofs.Cited.{◌≡◌, take}
+use Rattle.aggregate_proc.proofs.Imports.{take, ◌≡◌}
 use Rattle.aggregate_proc.proofs.fold.texts_of.Given as goal
 
 abbrev pub invariant-loop-i : goal.invariant-loop-i

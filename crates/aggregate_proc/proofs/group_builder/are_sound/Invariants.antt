@@ -1,4 +1,4 @@
-use Rattle.aggregate_proc.proofs.Cited.{◌≡◌, ◌<◌, ℕ, true, get_or, StateCall, can_fold, fold_of}
+use Rattle.aggregate_proc.proofs.Imports.{StateCall, can_fold, fold_of, get_or, true, ℕ, ◌<◌, ◌≡◌}
 use Rattle.aggregate_proc.proofs.group_builder.are_sound.Given as goal
 
 abbrev pub invariant-loop-i : goal.invariant-loop-i

@@ -1,4 +1,4 @@
-use Rattle.aggregate_proc.proofs.Cited.{◌<◌, ℕ, get_or, FitsColumn, FoldColumn}
+use Rattle.aggregate_proc.proofs.Imports.{FitsColumn, FoldColumn, get_or, ℕ, ◌<◌}
 use Rattle.aggregate_proc.proofs.group_builder.fit_columns.Given as goal
 
 abbrev pub invariant-loop-i : goal.invariant-loop-i

@@ -1,4 +1,5 @@
-use Rattle.aggregate_proc.proofs.Cited.{◌++◌, ◌∙◌, ap, length, sym, arith, append-nil, at_drop_all, call_types, types-are}
+use Rattle.aggregate_proc.proofs.Imports.{ap, append-nil, arith, at_drop_all, call_types, length, sym, ◌++◌, ◌∙◌}
+use Rattle.aggregate_proc.proofs.BuilderLaws.{types-are}
 use Rattle.aggregate_proc.proofs.group_builder.input_types.Goals as goal
 
 pub returns : goal.returns

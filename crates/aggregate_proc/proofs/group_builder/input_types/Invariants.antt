@@ -1,4 +1,4 @@
-use Rattle.aggregate_proc.proofs.Cited.{◌≡◌, ◌++◌, drop, call_types}
+use Rattle.aggregate_proc.proofs.Imports.{call_types, drop, ◌++◌, ◌≡◌}
 use Rattle.aggregate_proc.proofs.group_builder.input_types.Given as goal
 
 abbrev pub invariant-loop-call : goal.invariant-loop-call

@@ -1,4 +1,5 @@
-use Rattle.aggregate_proc.proofs.Cited.{◌∙◌, arith, key-push, no-keys}
+use Rattle.aggregate_proc.proofs.Imports.{arith, ◌∙◌}
+use Rattle.aggregate_proc.proofs.BuilderLaws.{key-push, no-keys}
 use Rattle.aggregate_proc.proofs.group_builder.key_columns.Goals as goal
 
 pub loop-c-init : goal.loop-c-init

@@ -1,4 +1,4 @@
-use Rattle.aggregate_proc.proofs.Cited.{◌≡◌, map, empty_column, key_foldings}
+use Rattle.aggregate_proc.proofs.Imports.{empty_column, key_foldings, map, ◌≡◌}
 use Rattle.aggregate_proc.proofs.group_builder.key_columns.Given as goal
 
 abbrev pub invariant-loop-c : goal.invariant-loop-c

@@ -1,4 +1,5 @@
-use Rattle.aggregate_proc.proofs.Cited.{arith, ◌++◌, map, ap₂, ◌∙◌, call_foldings, empty_column, foldings_for, key_foldings, all-empty, built-columns, foldings-are}
+use Rattle.aggregate_proc.proofs.Imports.{ap₂, arith, call_foldings, empty_column, foldings_for, key_foldings, map, ◌++◌, ◌∙◌}
+use Rattle.aggregate_proc.proofs.BuilderLaws.{all-empty, built-columns, foldings-are}
 use Rattle.aggregate_proc.proofs.group_builder.new_table.Goals as goal
 
 pub new-requires-clause-empty : goal.new-requires-clause-empty

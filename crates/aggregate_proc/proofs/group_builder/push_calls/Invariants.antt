@@ -1,4 +1,4 @@
-use Rattle.aggregate_proc.proofs.Cited.{◌≡◌, ◌++◌, drop, map, call_foldings, empty_column}
+use Rattle.aggregate_proc.proofs.Imports.{call_foldings, drop, empty_column, map, ◌++◌, ◌≡◌}
 use Rattle.aggregate_proc.proofs.group_builder.push_calls.Given as goal
 
 abbrev pub invariant-loop-i : goal.invariant-loop-i

@@ -1,4 +1,4 @@
-use Rattle.aggregate_proc.proofs.Cited.{◌≡◌, ◌+◌, suc, List, ◌∙◌, get_or, set, ap, ap₂, arith, FoldColumn, changed, changed_all, changed_more, get_or-changed, with_rows}
+use Rattle.aggregate_proc.proofs.Imports.{FoldColumn, List, ap, ap₂, arith, changed, changed_all, changed_more, get_or, get_or-changed, set, suc, with_rows, ◌+◌, ◌∙◌, ◌≡◌}
 use Rattle.aggregate_proc.proofs.group_table.add_to_each.Goals as goal
 
 pub add-requires-clause-fits : goal.add-requires-clause-fits

@@ -1,4 +1,4 @@
-use Rattle.aggregate_proc.proofs.Cited.{◌≡◌, changed, with_rows}
+use Rattle.aggregate_proc.proofs.Imports.{changed, with_rows, ◌≡◌}
 use Rattle.aggregate_proc.proofs.group_table.add_to_each.Given as goal
 
 abbrev pub invariant-loop-i : goal.invariant-loop-i

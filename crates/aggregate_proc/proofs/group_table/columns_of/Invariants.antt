@@ -1,4 +1,4 @@
-use Rattle.aggregate_proc.proofs.Cited.{◌≡◌, map, FoldColumn, column_type, values}
+use Rattle.aggregate_proc.proofs.Imports.{FoldColumn, column_type, map, values, ◌≡◌}
 use Rattle.aggregate_proc.proofs.group_table.columns_of.Given as goal
 
 abbrev pub invariant-loop-column : goal.invariant-loop-column

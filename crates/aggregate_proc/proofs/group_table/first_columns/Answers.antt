@@ -1,4 +1,4 @@
-use Rattle.aggregate_proc.proofs.Prelude.{arith, count_up}
+use Rattle.aggregate_proc.proofs.Imports.{arith, count_up}
 use Rattle.aggregate_proc.proofs.group_table.first_columns.Goals as goal
 
 pub loop-c-init : goal.loop-c-init

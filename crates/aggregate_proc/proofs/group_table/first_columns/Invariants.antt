@@ -1,4 +1,4 @@
-use Rattle.aggregate_proc.proofs.Cited.{◌≡◌}
+use Rattle.aggregate_proc.proofs.Imports.{◌≡◌}
 use Rattle.query_model.proofs.Imports.{count_up}
 use Rattle.aggregate_proc.proofs.group_table.first_columns.Given as goal
 

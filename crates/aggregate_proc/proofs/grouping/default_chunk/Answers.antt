@@ -1,4 +1,5 @@
-use Rattle.aggregate_proc.proofs.Cited.{◌≡◌, IfOk, length, ap, ◌∙◌, sym, subst, arith, AreLong, Table, rows_of, default-long, default-rows, default-values}
+use Rattle.aggregate_proc.proofs.Imports.{AreLong, IfOk, Table, ap, arith, length, rows_of, subst, sym, ◌∙◌, ◌≡◌}
+use Rattle.aggregate_proc.proofs.BuilderLaws.{default-long, default-rows, default-values}
 use Rattle.aggregate_proc.proofs.grouping.default_chunk.Goals as goal
 
 pub of_columns-requires : goal.of_columns-requires

@@ -1,4 +1,4 @@
-use Rattle.aggregate_proc.proofs.Cited.{◌≡◌, [], ◌∷◌, map, take, StateCall, default_value, column_type, values}
+use Rattle.aggregate_proc.proofs.Imports.{StateCall, [], column_type, default_value, map, take, values, ◌∷◌, ◌≡◌}
 use Rattle.aggregate_proc.proofs.grouping.default_chunk.Given as goal
 
 abbrev pub invariant-loop-call : goal.invariant-loop-call

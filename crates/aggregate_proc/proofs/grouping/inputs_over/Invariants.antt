@@ -1,4 +1,4 @@
-use Rattle.aggregate_proc.proofs.Cited.{◌≡◌, ℕ, ◌<◌, true, input_at, is_in_finished}
+use Rattle.aggregate_proc.proofs.Imports.{input_at, is_in_finished, true, ℕ, ◌<◌, ◌≡◌}
 use Rattle.aggregate_proc.proofs.grouping.inputs_over.Given as goal
 
 abbrev pub invariant-loop-i : goal.invariant-loop-i

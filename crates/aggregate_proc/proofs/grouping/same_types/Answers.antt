@@ -1,4 +1,4 @@
-use Rattle.aggregate_proc.proofs.Cited.{arith, same_true, true_same, slice_eq-Decides}
+use Rattle.aggregate_proc.proofs.Imports.{arith, same_true, slice_eq-Decides, true_same}
 use Rattle.aggregate_proc.proofs.grouping.same_types.Goals as goal
 
 pub returns : goal.returns

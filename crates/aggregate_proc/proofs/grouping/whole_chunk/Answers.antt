@@ -1,4 +1,5 @@
-use Rattle.aggregate_proc.proofs.Cited.{arith, table-types}
+use Rattle.aggregate_proc.proofs.Imports.{arith}
+use Rattle.aggregate_proc.proofs.BuilderLaws.{table-types}
 use Rattle.aggregate_proc.proofs.grouping.whole_chunk.Goals as goal
 
 pub returns-clause-types : goal.returns-clause-types

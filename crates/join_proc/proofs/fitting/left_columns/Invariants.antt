@@ -1,4 +1,4 @@
-use Rattle.join_proc.proofs.Cited.{◌≡◌, take, left_places}
+use Rattle.join_proc.proofs.Imports.{left_places, take, ◌≡◌}
 use Rattle.join_proc.proofs.fitting.left_columns.Given as goal
 
 abbrev pub invariant-loop-pair : goal.invariant-loop-pair

@@ -1,4 +1,4 @@
-use Rattle.join_proc.proofs.Cited.{◌≡◌, take, right_places}
+use Rattle.join_proc.proofs.Imports.{right_places, take, ◌≡◌}
 use Rattle.join_proc.proofs.fitting.right_columns.Given as goal
 
 abbrev pub invariant-loop-pair : goal.invariant-loop-pair

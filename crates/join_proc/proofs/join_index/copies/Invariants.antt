@@ -1,4 +1,4 @@
-use Rattle.join_proc.proofs.Cited.{All, length, ◌≡◌}
+use Rattle.join_proc.proofs.Imports.{All, length, ◌≡◌}
 use Rattle.join_proc.proofs.join_index.copies.Given as goal
 
 abbrev pub invariant-loop-done : goal.invariant-loop-done

@@ -1,4 +1,4 @@
-use Rattle.join_proc.proofs.Cited.{◌≡◌, ◌-◌, length, AreLinked}
+use Rattle.join_proc.proofs.Imports.{AreLinked, length, ◌-◌, ◌≡◌}
 use Rattle.join_proc.proofs.join_index.link_rows.Given as goal
 
 abbrev pub invariant-loop-done : goal.invariant-loop-done

@@ -1,4 +1,4 @@
-use Rattle.join_proc.proofs.Cited.{◌≡◌, ◌++◌, drop, starts_at}
+use Rattle.join_proc.proofs.Imports.{drop, starts_at, ◌++◌, ◌≡◌}
 use Rattle.join_proc.proofs.join_index.starts_of.Given as goal
 
 abbrev pub invariant-loop-left : goal.invariant-loop-left

@@ -1,6 +1,6 @@
 use Rattle.std.proofs.Common.{[], ◌≡◌, ◌<◌, ◌∙◌, ◌∷◌, length, false, true, map, replicate, sym, ap, subst, arith}
 use Rattle.chunk_data.specs.Values.{is_text, plain_type}
-use Rattle.key_codes.proofs.Prelude.{All, IsCell, IsSeenFor, byte_codes, codes_in, column_type, first_of, kinds_at, number_codes, type_at, value_code, values, whole_codes}
+use Rattle.key_codes.proofs.Imports.{All, IsCell, IsSeenFor, byte_codes, codes_in, column_type, first_key_column, number_codes, plain_types_at, type_at, value_code, values, whole_codes}
 use Rattle.key_codes.proofs.CodeLaws.{on-ok, on-ok-more}
 use Rattle.key_codes.proofs.KeyLaws.{found-codes, found-places, kind-at, one-codes, kinds-long, one-form, one-keys, text-cells, text-codes, whole-codes}
 use Rattle.key_codes.proofs.key_code.find_places.Goals as goal
@@ -9,7 +9,7 @@ pub returns-in-Whole-clause-places : goal.returns-in-Whole-clause-places
 returns-in-Whole-clause-places c =
     let places = c.args.places.now in
     let t = c.args.chunk.now in
-    let form = subst (IsSeenFor (kinds_at t.types places)) c.in-Whole.is c.requires.form in
+    let form = subst (IsSeenFor (plain_types_at t.types places)) c.in-Whole.is c.requires.form in
     found-places c.whole_places.result c.args.adds (replicate c.rows.result [])
     (whole_codes c.in-Whole.some) (whole_codes c.whole_places.new.some) _ _
     (ap (λ n. replicate n []) c.rows.ensures.count
@@ -20,7 +20,7 @@ pub returns-in-Whole-clause-seen : goal.returns-in-Whole-clause-seen
 returns-in-Whole-clause-seen c =
     let places = c.args.places.now in
     let t = c.args.chunk.now in
-    let form = subst (IsSeenFor (kinds_at t.types places)) c.in-Whole.is c.requires.form in
+    let form = subst (IsSeenFor (plain_types_at t.types places)) c.in-Whole.is c.requires.form in
     found-codes c.whole_places.result c.args.adds (replicate c.rows.result [])
     (whole_codes c.in-Whole.some) (whole_codes c.whole_places.new.some) _ _
     (ap (λ n. replicate n []) c.rows.ensures.count
@@ -31,7 +31,7 @@ pub returns-in_ok-bits-in-Numbers-clause-places : goal.returns-in_ok-bits-in-Num
 returns-in_ok-bits-in-Numbers-clause-places c =
     let places = c.args.places.now in
     let t = c.args.chunk.now in
-    let seen = subst (IsSeenFor (kinds_at t.types places)) c.in-Numbers.is c.requires.form in
+    let seen = subst (IsSeenFor (plain_types_at t.types places)) c.in-Numbers.is c.requires.form in
     let form = one-form t.types places false seen.0 seen.1 in
     found-places c.number_places.result c.args.adds (map (λ n. n ∷ []) c.as_slice.result.now)
     (number_codes c.in-Numbers.numbers) (number_codes c.number_places.new.seen) _ _
@@ -43,7 +43,7 @@ pub returns-in_ok-bits-in-Numbers-clause-cells : goal.returns-in_ok-bits-in-Numb
 returns-in_ok-bits-in-Numbers-clause-cells c =
     let places = c.args.places.now in
     let t = c.args.chunk.now in
-    let seen = subst (IsSeenFor (kinds_at t.types places)) c.in-Numbers.is c.requires.form in
+    let seen = subst (IsSeenFor (plain_types_at t.types places)) c.in-Numbers.is c.requires.form in
     let form = one-form t.types places false seen.0 seen.1 in
     let lt : 0 < length places = omega (arith, form.0) in
     on-ok c.number_places.result (one-keys t.types places t.rows
@@ -75,14 +75,14 @@ returns-then-places-eq1-clause-cells c =
     let places = c.args.places.now in
     let t = c.args.chunk.now in
     let kind = column_type c.column-then-places-eq1.result.now in
-    let seen = subst (IsSeenFor (kinds_at t.types places)) c.in-Bytes.is c.requires.form in
+    let seen = subst (IsSeenFor (plain_types_at t.types places)) c.in-Bytes.is c.requires.form in
     let one = kinds-long t.types places ∙ c.if-places-eq1.true in
     let form = one-form t.types places true one (seen one) in
     let lt : 0 < length places = omega (arith, c.if-places-eq1.true) in
     let within = c.requires.within 0 0 lt in
     let text : is_text kind ≡ true = ap is_text
-    (sym (kind-at t.types (first_of places) kind c.column-then-places-eq1.ensures.kind within))
-    ∙ form.1 in
+    (sym (kind-at t.types (first_key_column places) kind c.column-then-places-eq1.ensures.kind
+    within)) ∙ form.1 in
     on-ok-more c.text_places.result (λ cells. one-keys t.types places t.rows kind
     (values c.column-then-places-eq1.result.now) c.if-places-eq1.true
     c.column-then-places-eq1.ensures.kind within c.column-then-places-eq1.ensures.values
@@ -94,7 +94,7 @@ pub texts-requires : goal.texts-requires
 texts-requires c =
     let places = c.args.places.now in
     let t = c.args.chunk.now in
-    let seen = subst (IsSeenFor (kinds_at t.types places)) c.in-Bytes.is c.requires.form in
+    let seen = subst (IsSeenFor (plain_types_at t.types places)) c.in-Bytes.is c.requires.form in
     let one = kinds-long t.types places ∙ c.if-places-eq1.true in
     let form = one-form t.types places true one (seen one) in
     grind (arith, kind-at)
@@ -103,6 +103,6 @@ pub bits_of-requires : goal.bits_of-requires
 bits_of-requires c =
     let places = c.args.places.now in
     let t = c.args.chunk.now in
-    let seen = subst (IsSeenFor (kinds_at t.types places)) c.in-Numbers.is c.requires.form in
+    let seen = subst (IsSeenFor (plain_types_at t.types places)) c.in-Numbers.is c.requires.form in
     let form = one-form t.types places false seen.0 seen.1 in
     grind (arith, kind-at)

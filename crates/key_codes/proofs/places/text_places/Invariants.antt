@@ -1,5 +1,5 @@
 use Rattle.std.proofs.Common.{◌<◌, ◌^◌, ℕ, [], get_or, length}
-use Rattle.key_codes.proofs.Prelude.{byte_codes}
+use Rattle.key_codes.proofs.Imports.{byte_codes}
 use Rattle.key_codes.proofs.KeyLaws.{FindsSome}
 use Rattle.key_codes.proofs.places.text_places.Given as goal
 

@@ -1,5 +1,5 @@
 use Rattle.std.proofs.Common.{[], replicate}
-use Rattle.key_codes.proofs.Prelude.{whole_codes}
+use Rattle.key_codes.proofs.Imports.{whole_codes}
 use Rattle.key_codes.proofs.KeyLaws.{FindsSome}
 use Rattle.key_codes.proofs.places.whole_places.Given as goal
 

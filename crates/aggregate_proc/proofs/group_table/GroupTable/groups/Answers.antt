@@ -1,4 +1,5 @@
-use Rattle.aggregate_proc.proofs.Cited.{arith, rows-counted}
+use Rattle.aggregate_proc.proofs.Imports.{arith}
+use Rattle.aggregate_proc.proofs.GroupLaws.{rows-counted}
 use Rattle.aggregate_proc.proofs.group_table.GroupTable.groups.Goals as goal
 
 pub returns : goal.returns

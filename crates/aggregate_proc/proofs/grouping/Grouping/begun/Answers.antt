@@ -1,4 +1,4 @@
-use Rattle.aggregate_proc.proofs.Cited.{begins}
+use Rattle.aggregate_proc.proofs.GroupingLaws.{begins}
 use Rattle.aggregate_proc.proofs.grouping.Grouping.begun.Goals as goal
 
 pub returns-in-Ok : goal.returns-in-Ok

@@ -1,4 +1,5 @@
-use Rattle.aggregate_proc.proofs.Cited.{◌≡◌, ◌-◌, ◌∙◌, length, max, min, arith, rules, makes-part}
+use Rattle.aggregate_proc.proofs.Imports.{arith, length, max, min, rules, ◌-◌, ◌∙◌, ◌≡◌}
+use Rattle.aggregate_proc.proofs.GroupingLaws.{makes-part}
 use Rattle.aggregate_proc.proofs.grouping.Grouping.give.Goals as goal
 
 pub returns-in-Ok-clause-makes : goal.returns-in-Ok-clause-makes

@@ -1,4 +1,7 @@
-use Rattle.join_proc.proofs.Cited.{arith, false, List, ◌≡◌, ◌<◌, ◌∙◌, length, map, ap, ap₂, refl, subst, sym, All, All-from_recursion, AreCells, ColumnType, JoinIndex, Row, codes_in, key_at, kinds_at, left_places, map-map, places_from, position_or_len, recursion_from_All, right_places, row_code, same_code, starts_at, left-within, pair-kinds, starts-left, keys-found, places-found, places-within}
+use Rattle.join_proc.proofs.Imports.{All, All-from_recursion, AreKeyValues, ColumnType, JoinIndex, List, Row, ap, ap₂, arith, codes_in, false, key_at, left_places, length, map, map-map, places_from, plain_types_at, position_or_len, recursion_from_All, refl, right_places, row_code, same_code, starts_at, subst, sym, ◌<◌, ◌∙◌, ◌≡◌}
+use Rattle.join_proc.proofs.AgreeLaws.{left-within, pair-kinds}
+use Rattle.join_proc.proofs.LeftLaws.{starts-left}
+use Rattle.join_proc.proofs.PlaceLaws.{keys-found, places-found, places-within}
 use Rattle.join_proc.proofs.join_index.JoinIndex.left_rows.Goals as goal
 
 pub find_places-requires-clause-within : goal.find_places-requires-clause-within
@@ -32,14 +35,15 @@ returns-clause-starts c =
     let same : codes_in c.find_places.new.seen ≡ codes_in x.seen =
     c.in_ok-places.ensures.seen
     ∙ keys-found same_code (map (row_code c.as_slice.result.now) rows) (codes_in x.seen) in
-    let kinds : kinds_at c.args.chunk.types lefts ≡ kinds_at x.rows.types rights =
-    ap (λ (ts : List ColumnType). kinds_at ts lefts) c.requires.types
+    let kinds : plain_types_at c.args.chunk.types lefts ≡ plain_types_at x.rows.types rights =
+    ap (λ (ts : List ColumnType). plain_types_at ts lefts) c.requires.types
     ∙ pair-kinds join c.requires.pairs
-    ∙ ap (λ (ts : List ColumnType). kinds_at ts rights) (sym c.requires.right) in
-    let cells = recursion_from_All (λ (r : Row). AreCells (kinds_at x.rows.types rights)
+    ∙ ap (λ (ts : List ColumnType). plain_types_at ts rights) (sym c.requires.right) in
+    let cells = recursion_from_All (λ (r : Row). AreKeyValues (plain_types_at x.rows.types rights)
     (key_at lefts r)) rows
-    (subst (λ ks. All (λ (r : Row). AreCells ks (key_at lefts r)) rows) kinds
-    (subst (λ cs. All (λ (r : Row). AreCells (kinds_at c.args.chunk.types cs) (key_at cs r)) rows)
+    (subst (λ ks. All (λ (r : Row). AreKeyValues ks (key_at lefts r)) rows) kinds
+    (subst (λ cs. All
+    (λ (r : Row). AreKeyValues (plain_types_at c.args.chunk.types cs) (key_at cs r)) rows)
     cols c.in_ok-places.ensures.cells)) in
     let places : c.as_slice-2.result.now ≡ map (λ (r : Row). position_or_len
     (same_code (row_code lefts r)) (codes_in c.find_places.new.seen)) rows =

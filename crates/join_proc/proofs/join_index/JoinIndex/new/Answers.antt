@@ -1,4 +1,6 @@
-use Rattle.join_proc.proofs.Cited.{true, ◌≡◌, ◌<◌, ◌∙◌, length, map, fold, ap, ap₂, arith, subst, sym, All, codes_in, key_codes, key_places, places_from, right_places, row_code, same_code, with_key, right-within, key-places-long, key-places-within, none-linked}
+use Rattle.join_proc.proofs.Imports.{All, ap, ap₂, arith, codes_in, fold, key_codes, key_places, length, map, places_from, right_places, row_code, same_code, subst, sym, true, with_key, ◌<◌, ◌∙◌, ◌≡◌}
+use Rattle.join_proc.proofs.AgreeLaws.{right-within}
+use Rattle.join_proc.proofs.IndexLaws.{key-places-long, key-places-within, none-linked}
 use Rattle.join_proc.proofs.join_index.JoinIndex.new.Goals as goal
 
 pub find_places-requires-clause-within : goal.find_places-requires-clause-within

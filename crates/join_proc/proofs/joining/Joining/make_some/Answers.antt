@@ -1,4 +1,6 @@
-use Rattle.join_proc.proofs.Cited.{Some, ◌++◌, ◌∙◌, ap, ap₂, length, subst, sym, IsJoining, JoinSpec, JoiningView, Makes, joining_own, leb-false, makes, some-left}
+use Rattle.join_proc.proofs.Imports.{IsJoining, JoinSpec, JoiningView, Makes, Some, ap, ap₂, joining_own, leb-false, length, subst, sym, ◌++◌, ◌∙◌}
+use Rattle.join_proc.proofs.JoiningLaws.{makes}
+use Rattle.join_proc.proofs.LeftLaws.{some-left}
 use Rattle.query_model.specs.declared.processor_spec.Spec.TheVariants as spec
 use Rattle.join_proc.proofs.joining.Joining.make_some.Goals as goal
 

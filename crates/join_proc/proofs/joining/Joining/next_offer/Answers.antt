@@ -1,4 +1,5 @@
-use Rattle.join_proc.proofs.Cited.{arith, leb-false, some-left}
+use Rattle.join_proc.proofs.Imports.{arith, leb-false}
+use Rattle.join_proc.proofs.LeftLaws.{some-left}
 use Rattle.join_proc.proofs.joining.Joining.next_offer.Goals as goal
 
 pub returns-else-is_joined : goal.returns-else-is_joined

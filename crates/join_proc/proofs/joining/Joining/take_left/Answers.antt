@@ -1,4 +1,5 @@
-use Rattle.join_proc.proofs.Cited.{None, [], ◌∷◌, ap, refl, subst, sym, JoinSpec, JoiningView, Table, Takes, gathered_own, joining_own, takes-left}
+use Rattle.join_proc.proofs.Imports.{JoinSpec, JoiningView, None, Table, Takes, [], ap, gathered_right, joining_own, refl, subst, sym, ◌∷◌}
+use Rattle.join_proc.proofs.JoiningLaws.{takes-left}
 use Rattle.query_model.specs.declared.processor_spec.Spec.TheVariants as spec
 use Rattle.join_proc.proofs.joining.Joining.take_left.Goals as goal
 
@@ -7,7 +8,7 @@ returns-in-Ok-clause-takes c =
     let join = c.self.inside.join in
     let x = c.left_rows.new.self in
     rw c.put_phase.ensures (subst
-    (λ (j : JoinSpec). Takes (spec.HashJoin j) (gathered_own c.args.index.rows) 0 c.args.chunk
+    (λ (j : JoinSpec). Takes (spec.HashJoin j) (gathered_right c.args.index.rows) 0 c.args.chunk
     (joining_own join x c.in-Ok.left) None) (ap (λ (v : JoiningView). v.join) c.self.view_is)
-    (takes-left join (gathered_own c.args.index.rows) x c.in-Ok.left c.args.chunk refl refl
+    (takes-left join (gathered_right c.args.index.rows) x c.in-Ok.left c.args.chunk refl refl
     (ap (λ (t : Table). t ∷ []) (sym c.in-Ok.ensures.rows)) c.in-Ok.ensures.starts))

@@ -1,4 +1,5 @@
-use Rattle.join_proc.proofs.Cited.{arith, joins-some}
+use Rattle.join_proc.proofs.Imports.{arith}
+use Rattle.join_proc.proofs.LeftLaws.{joins-some}
 use Rattle.join_proc.proofs.left_rows.LeftRows.next_chunk.Goals as goal
 
 pub returns-in-Ok-clause-joins : goal.returns-in-Ok-clause-joins

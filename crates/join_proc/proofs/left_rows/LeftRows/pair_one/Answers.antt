@@ -1,4 +1,5 @@
-use Rattle.join_proc.proofs.Cited.{arith, moved-fit, moved-pairs, next-within}
+use Rattle.join_proc.proofs.Imports.{arith}
+use Rattle.join_proc.proofs.LeftLaws.{moved-fit, moved-pairs, next-within}
 use Rattle.join_proc.proofs.left_rows.LeftRows.pair_one.Goals as goal
 
 pub index-requires : goal.index-requires

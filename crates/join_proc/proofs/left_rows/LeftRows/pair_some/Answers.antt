@@ -1,4 +1,5 @@
-use Rattle.join_proc.proofs.Cited.{joins-more, none-left, [], ap, arith, leb-true, length, length-append, ◌∙◌, ◌∷◌}
+use Rattle.join_proc.proofs.LeftLaws.{joins-more, none-left}
+use Rattle.join_proc.proofs.Imports.{[], ap, arith, leb-true, length, length-append, ◌∙◌, ◌∷◌}
 use Rattle.join_proc.proofs.left_rows.LeftRows.pair_some.Goals as goal
 
 pub loop-done-preserved : goal.loop-done-preserved

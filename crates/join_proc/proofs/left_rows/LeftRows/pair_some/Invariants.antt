@@ -1,4 +1,4 @@
-use Rattle.join_proc.proofs.Cited.{◌≡◌, length, AreFit, JoinsRows}
+use Rattle.join_proc.proofs.Imports.{AreFit, JoinsRows, length, ◌≡◌}
 use Rattle.join_proc.proofs.left_rows.LeftRows.pair_some.Given as goal
 
 abbrev pub invariant-loop-done : goal.invariant-loop-done

@@ -1,16 +1,16 @@
--- The names of other crates and of the definitions that the proofs use, in one place.
+-- The names from outside that this crate's proofs use, in one place.
 pub use Rattle.chunk_data.proofs.Laws.{AreLong-made, rows_of-made}
 pub use Rattle.key_codes.proofs.KeyLaws.{codes-keys, places-keys}
 pub use Rattle.proc_api.proofs.Orders.{every-append}
-pub use Rattle.proc_api.specs.Made.{NotesEnd as EndIsNoted}
+pub use Rattle.proc_api.specs.SpecContracts.{NotesEnd as EndIsNoted}
 pub use Rattle.std.proofs.Common.{Bool, IfOk, IsPermutation, List, None, SFits, Some, [], ap, append_assoc, ap₂, arith, cond, drop, drop-drop, false, filter, fold, get_or, inl, inr, length, map, max, min, not, of_z, pos, refl, rules, set, subst, suc, sym, take, to_z, true, w64, zero, ℕ, ℤ, ◌%◌, ◌++◌, ◌+ℤ◌, ◌+◌, ◌-◌, ◌<◌, ◌^◌, ◌||◌, ◌∙◌, ◌∷◌, ◌≡◌, ◌≢◌, ◌≤◌, ◌⊎◌}
 pub use Rattle.std.proofs.lemmas.Grind.{common_steps}
 pub use denote.Enum.Bare.{same_true, true_same}
 pub use Rattle.aggregate_proc.specs.Cells.{FitsColumn, can_fold}
-pub use Rattle.aggregate_proc.specs.Folds.{FoldColumn, earlier, folded, next_folded, put, put_all, with_rows}
-pub use Rattle.aggregate_proc.specs.GroupKinds.{AreSound, GroupingView, IsGrouping, IsNext, IsPhaseFor, IsTableFor, NotesEnd, call_foldings, call_types, calls_for, empty_column, fold_for, fold_of, foldings_for, gathering_own, given_for, giving_own, groups_for, open_for, own_in, phase_own, spec_for, state_in, types_for, whole_for, worked_rows}
+pub use Rattle.aggregate_proc.specs.Folds.{FoldColumn, earlier, folded, next_folded, put_all, put_folded, with_rows}
+pub use Rattle.aggregate_proc.specs.GroupKinds.{AreSound, GroupingView, IsGroupPhase, IsGroupState, IsGroupTableFor, IsNextOfGroups, NotesGroupsEnd, aggregate_spec, call_foldings, call_types, calls_for, empty_column, fold_for, fold_of, foldings_for, gathering_own, given_for, giving_own, grouping_own, groups_for, open_for, phase_own, state_in, types_for, whole_for, worked_rows}
 pub use Rattle.aggregate_proc.specs.Prelude.{AggOp, AreGrouped, GroupSpec, Offer, SeenKeys, StateCall, rows_of}
-pub use Rattle.aggregate_proc.specs.Tables.{AreCalls, Folding, GroupsMore, HasKey, IsTable, IsTableOf, TableView, argument_at, folded_at, folding_of, foldings_of, group_column, group_keys, key_foldings, key_of, kinds_of, rows_in, table_view}
+pub use Rattle.aggregate_proc.specs.Tables.{AreCalls, Folding, GroupTableView, GroupsMore, HasKeyFirst, IsGroupTable, IsGroupTableOf, argument_at, fold_types, folded_at, folding_of, foldings_of, group_column, group_keys, group_table_rows, group_table_view, key_foldings, key_of}
 pub use Rattle.aggregate_proc.specs.declared.fold.Fold.{Fold}
 pub use Rattle.aggregate_proc.specs.declared.phase.Phase.{Phase}
 pub use Rattle.chunk_data.proofs.ColumnLists.{changed, changed_all, changed_more, get_or-changed}
@@ -18,8 +18,8 @@ pub use Rattle.chunk_data.proofs.Imports.{AreLong, adds, column_type, row_at, va
 pub use Rattle.chunk_data.proofs.Rows.{length-rows_of}
 pub use Rattle.chunk_data.specs.declared.typed_column.Column.{Column}
 pub use Rattle.indexmap.specs.IndexSet.{insert_key}
-pub use Rattle.key_codes.specs.Keys.{AreCells, HasKey as HasKeyAt, IsSeenFor, codes_in, first_of, key_at, key_code, kinds_at, places_from, row_code, same_code}
-pub use Rattle.proc_api.specs.Grouped.{argument_types, calls_from, default_states, group_types, merged_states}
+pub use Rattle.key_codes.specs.Keys.{AreKeyValues, HasKey as HasKeyAt, IsSeenFor, codes_in, first_key_column, key_at, key_code, places_from, plain_types_at, row_code, same_code}
+pub use Rattle.proc_api.specs.Grouped.{argument_types, calls_from, default_states, merged_states, spec_group_types}
 pub use Rattle.proc_shell.proofs.Imports.{ArePortsOf, HasNotedEnd, IsAtMost, IsPulled, Lists, MakesTypes, OwnState, Picture, Spec, cases_eq, cases_lt, chunk_rows, eqb-true, in_count, input_at, is_in_finished, most_rows, no-rows, no_lists, out_count}
 pub use Rattle.proc_shell.proofs.Through.{all-more, makes-nothing, rows-here}
 pub use Rattle.proc_shell.specs.Kernels.{AreInputsOver, Begins, IsReadOut, Makes, Means, OfferComes, Offers, Reading, Reads, Takes, unread, with_chunk}
@@ -43,5 +43,5 @@ pub use Rattle.std.specs.Cmp.Lexicographic.{nat_list_eq_equiv, same_text}
 pub use Rattle.std.specs.Int.{cast_signed, cast_unsigned, from_le_bytes, int_max, int_min, int_wrap, to_le_bytes}
 pub use Rattle.std.specs.List.{All, AllByRecursion, list_all, list_any, position_or_len}
 pub use Rattle.std.specs.Ordering.{int_cmp, nat_cmp}
-unfoldable pub use Rattle.proc_api.specs.Made.{all_rows}
+unfoldable pub use Rattle.proc_api.specs.Histories.{all_rows}
 unfoldable pub use Rattle.query_model.specs.Names.{chosen, combined, count_up, distinct, value_of, wrapped}

@@ -1,8 +1,8 @@
--- The names of other crates and of the definitions that the proofs use, in one place.
+-- The names from outside that this crate's proofs use, in one place.
 pub use Rattle.chunk_data.proofs.Imports.{column_type, row_at, values}
 pub use Rattle.chunk_data.specs.Values.{type_at}
 pub use Rattle.indexmap.specs.IndexSet.{insert_key}
-pub use Rattle.key_codes.specs.Keys.{AreCells, FindsCode, FindsCodes, HasKey, IsCell, IsSeenFor, byte_codes, codes_in, first_kind, first_of, key_at, key_code, kinds_at, number_codes, places_from, row_code, same_code, value_bytes, value_code, whole_codes, with_key}
+pub use Rattle.key_codes.specs.Keys.{AreKeyValues, FindsCode, FindsCodes, HasKey, IsCell, IsSeenFor, byte_codes, codes_in, first_key_column, first_plain_type, key_at, key_code, number_codes, places_from, plain_types_at, row_code, same_code, value_bytes, value_code, whole_codes, with_key}
 pub use Rattle.query_model.proofs.Distinct.{IsSame}
 pub use Rattle.query_model.proofs.Imports.{ColumnType, Row, Value, flat_map-append, same_row, value_at}
 pub use Rattle.query_model.proofs.Lists.{map-map}
