@@ -8,7 +8,7 @@ edges-count k [] = refl
 edges-count k (path ∷ paths) = grind (arith, common_steps, edges-count (k + 1) paths)
 
 -- what the first i paths grow by, and then what the others do
-pub record GrowsTo (list : PartSpec) (paths : List (List ℕ)) (i : ℕ) (nodes : List GrowNode)
+pub record GrowsUpTo (list : PartSpec) (paths : List (List ℕ)) (i : ℕ) (nodes : List GrowNode)
     (edges : List Edge) : Type 0 where
   pub specs : map (λ (n : GrowNode). spec_form n.spec) nodes ++ listed_parts list i (drop i paths)
       ≡ listed_parts list 0 paths
@@ -16,14 +16,14 @@ pub record GrowsTo (list : PartSpec) (paths : List (List ℕ)) (i : ℕ) (nodes 
       ≡ map (λ path. 0) paths
   pub edges_are : edges ++ listed_edges i (drop i paths) ≡ listed_edges 0 paths
 
-pub grows-first : (list : PartSpec) (paths : List (List ℕ)) → GrowsTo list paths 0 [] []
+pub grows-first : (list : PartSpec) (paths : List (List ℕ)) → GrowsUpTo list paths 0 [] []
 grows-first list paths = record { specs = refl; ranks = refl; edges_are = refl }
 
 pub grows-more : (list : PartSpec) (paths : List (List ℕ)) (i : ℕ) (d : List ℕ)
     (nodes : List GrowNode) (node : GrowNode) (edges : List Edge) (edge : Edge) → i < length paths
     → node.spec ≡ spec.Csv (listed_part list i (get_or paths i d)) → node.rank ≡ 0
-    → edge ≡ listed_edge i → GrowsTo list paths i nodes edges
-    → GrowsTo list paths (i + 1) (nodes ++ node ∷ []) (edges ++ edge ∷ [])
+    → edge ≡ listed_edge i → GrowsUpTo list paths i nodes edges
+    → GrowsUpTo list paths (i + 1) (nodes ++ node ∷ []) (edges ++ edge ∷ [])
 grows-more list paths i d nodes node edges edge lt spec' rank edge' g =
     let next = drop_more paths i d lt in
     record {
@@ -38,7 +38,7 @@ grows-more list paths i d nodes node edges edge lt spec' rank edge' g =
     }
 
 pub grows-all : (list : PartSpec) (paths : List (List ℕ)) (g : Growth)
-    → GrowsTo list paths (length paths) g.nodes g.edges → growth_form g ≡ list_growth list paths
+    → GrowsUpTo list paths (length paths) g.nodes g.edges → growth_form g ≡ list_growth list paths
 grows-all list paths g x =
     let none = drop_all (length paths) paths (omega arith) in
     λ i. record {

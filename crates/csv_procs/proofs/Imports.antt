@@ -1,22 +1,22 @@
 -- The names from outside that this crate's proofs use, in one place.
-pub use Rattle.csv_procs.specs.Fetching.{FaultComes, IsAfter, IsKnownOf, IsRead, Position, ReaderState, StaysAt, StepComes, StepsTo, Told}
+pub use Rattle.csv_procs.specs.Fetching.{FaultComes, IsAfter, IsKnownOf, IsRead, Position, ReaderState, StaysAt, StepComes, StepsTo, ToldFiles}
 pub use Rattle.csv_procs.specs.ListLines.{AreOf, AreTaken}
-pub use Rattle.csv_procs.specs.Names.{GivesLeft, HasFitLeft, IsLineTaken, IsNext, IsNextOfList, IsSome, IsSpecOf, IsWholeFile, MatchesReader, PartMatchesReader, Steps, files_of, inputs_in, is_path, kind_for, left_rows, list_bad_line, list_paths, listed_edge, listed_part, lists_in, max, open_in, sourcing, stage_in, without_cr}
-pub use Rattle.csv_procs.specs.Parts.{is_fetched, is_grown, paths_of, spec_for, types_or, unmade_in}
-pub use Rattle.csv_procs.specs.Prelude.{Fetching, FileState, Growth, HoldsFront, HoldsMore, IsFile, ListedPaths, Paths, Rows, Shut, StandsAtEnd, bad_line_in, filter, growth_form, list_growth, rows_of}
+pub use Rattle.csv_procs.specs.Names.{GivesLeft, HasFitLeft, IsLineTaken, IsNextOfList, IsNextOfSource, IsSome, IsSpecOf, IsWholeFile, MatchesReader, PartMatchesReader, Steps, csv_kind, files_of, inputs_in, is_path, left_rows, list_bad_line, list_paths, listed_edge, listed_part, lists_in, max, open_in, sourcing, stage_in, without_cr}
+pub use Rattle.csv_procs.specs.Parts.{csv_spec, is_fetched, is_grown, paths_of, source_unmade, types_or}
+pub use Rattle.csv_procs.specs.Prelude.{Fetching, FileState, Growth, HoldsFront, HoldsMore, IsFile, ListedPaths, Paths, Rows, Shut, StandsAtEnd, bad_line_in, filter, growth_form, list_growth, rows_if_some}
 pub use Rattle.csv_procs.specs.SourceShells.{list_uses, source_uses}
 pub use Rattle.csv_rows.proofs.Fetching.{HoldsFront-block, HoldsFront-whole, told_as_pairs}
-pub use Rattle.csv_rows.specs.Fetching.{IsLongFile as IsLongTold}
+pub use Rattle.csv_rows.specs.Fetching.{IsToldTooLong as IsLongTold}
 pub use Rattle.csv_rows.specs.RowsLeft.{RowsLeft, TakesRows, at_end}
 pub use Rattle.proc_api.specs.Forms.{spec_form}
-pub use Rattle.proc_api.specs.Growing.{listed_edges, listed_parts}
+pub use Rattle.proc_api.specs.kinds.List.{listed_edges, listed_parts}
 pub use Rattle.proc_api.specs.Names.{ArePartBytes, AreResized, Expands, IsLongFile, KeepsList, KnowsList, OwnState, Schedules, WakeComes}
-pub use Rattle.proc_api.specs.Ports.{is_me}
+pub use Rattle.proc_api.specs.KindContract.{is_me}
 pub use Rattle.proc_api.specs.declared.growth.Edge.{Edge}
 pub use Rattle.proc_api.specs.declared.growth.GrowNode.{GrowNode}
 pub use Rattle.proc_api.specs.declared.status.Status.{Status}
 pub use Rattle.proc_shell.proofs.BoxLaws.{fails, loads, none-mapped, works, wrong-kind}
-pub use Rattle.proc_shell.proofs.Imports.{is_some, ArePortsOf, Begins, Bool, BoxPicture, ColumnType, Err, Fails, FaultHolds, FaultInCall, FaultIsDue, Faults, IfErr, IfSome, IsKernelOf, IsSourceKind, IsWorkOf, KeepsPart, KeepsRows, KeepsSame, Kind, List, Lists, Makes, None, Notes, NotesEnd, OfPart, Offers, Ok, Option, PartSpec, Picture, Prepared, ReaderView, Reads, Result, Row, RowCount, Some, Spec, Table, Takes, Wake, WorkFault, [], ap, append-nil, append_assoc, arith, chunk_rows, common_steps, cond, differs_false, differs_true, false, file_of, grown_inputs, growth_in, held_made, held_unworked, idle_own, in_count, inl, inr, kind_of, length, length-append, option_map, out_count, part, part_seen, raised, refl, source_of, subst, sym, true, with_chunk, ℕ, ◌++◌, ◌+◌, ◌<◌, ◌∙◌, ◌∷◌, ◌≡◌, ◌≤◌, ◌⊎◌}
+pub use Rattle.proc_shell.proofs.Imports.{is_some, ArePortsOf, Begins, Bool, BoxPicture, ColumnType, Err, Fails, FaultHolds, FaultInCall, FaultIsDue, Faults, IfErr, IfSome, IsKernelOf, IsSourceKind, IsWorkOf, KeepsPart, KeepsRows, KeepsSame, Kind, List, Lists, Makes, None, Notes, NotesEnd, OfPart, Offers, Ok, Option, PartSpec, Picture, Prepared, ReaderView, Reads, Result, Row, RowCount, Some, Spec, Table, Takes, Wake, WorkFault, [], ap, append-nil, append_assoc, arith, chunk_rows, common_steps, cond, differs_false, differs_true, false, file_of, grown_inputs, growth_in, held_made, held_unworked, idle_own, in_count, inl, inr, kind_of, length, length-append, option_map, out_count, shell_state, loaded_seen, raised, refl, source_of, subst, sym, true, with_chunk, ℕ, ◌++◌, ◌+◌, ◌<◌, ◌∙◌, ◌∷◌, ◌≡◌, ◌≤◌, ◌⊎◌}
 pub use Rattle.proc_shell.proofs.KeepLaws.{had-same}
 pub use Rattle.proc_shell.proofs.Lists.{grown-keeps}
 pub use Rattle.proc_shell.proofs.Resizing.{begins-resized, resized-takes}

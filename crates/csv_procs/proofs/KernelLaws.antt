@@ -1,5 +1,5 @@
 -- What the kernel of a source offers, works and makes, be it of a part or of a list.
-use Rattle.csv_procs.proofs.Imports.{ArePortsOf, AreResized, Begins, Bool, ColumnType, Fetching, FileState, GivesLeft, HasFitLeft, IfSome, IsKernelOf, IsNext, IsNextOfList, IsSome, IsSourceKind, IsSpecOf, IsValid, List, ListedPaths, Makes, None, Offer, OfferComes, Offers, Option, PartSpec, Paths, Picture, Reads, Row, Rows, RowsLeft, Shut, Some, Spec, Table, Takes, TakesRows, [], ap, append-nil, append_assoc, arith, at_end, bad_place, begins-resized, chunk_rows, cond, eq-eqb, eqb-true, false, good_rows, grown_inputs, growth_in, idle_own, in_count, inl, inputs_in, inr, kind_for, kind_of, leaves-same, left_rows, length, length-append, list_growth, lists_in, makes-nothing, max, nil_from_length, open_in, out_count, refl, resized-takes, row_then, rows_of, sourcing, spec_for, spelled_row, stage_in, subst, sym, true, types_or, with_chunk, ℕ, ◌++◌, ◌+◌, ◌<◌, ◌∙◌, ◌∷◌, ◌≡◌, ◌⊎◌}
+use Rattle.csv_procs.proofs.Imports.{ArePortsOf, AreResized, Begins, Bool, ColumnType, Fetching, FileState, GivesLeft, HasFitLeft, IfSome, IsKernelOf, IsNextOfList, IsNextOfSource, IsSome, IsSourceKind, IsSpecOf, IsValid, List, ListedPaths, Makes, None, Offer, OfferComes, Offers, Option, PartSpec, Paths, Picture, Reads, Row, Rows, RowsLeft, Shut, Some, Spec, Table, Takes, TakesRows, [], ap, append-nil, append_assoc, arith, at_end, bad_place, begins-resized, chunk_rows, cond, csv_kind, csv_spec, eq-eqb, eqb-true, false, good_rows, grown_inputs, growth_in, idle_own, in_count, inl, inputs_in, inr, kind_of, leaves-same, left_rows, length, length-append, list_growth, lists_in, makes-nothing, max, nil_from_length, open_in, out_count, refl, resized-takes, row_then, rows_if_some, sourcing, spelled_row, stage_in, subst, sym, true, types_or, with_chunk, ℕ, ◌++◌, ◌+◌, ◌<◌, ◌∙◌, ◌∷◌, ◌≡◌, ◌⊎◌}
 use Rattle.query_model.specs.declared.processor_spec.Spec.TheVariants as spec
 use Rattle.proc_shell.specs.declared.kernel.Offer.TheVariants as offer
 use Rattle.csv_procs.proofs.GrowthLaws.{edges-count}
@@ -24,7 +24,7 @@ grown-all false list paths (inr none) = sym none
 
 -- the ports are the inputs that it has, and one output
 pub ports-are : (lists : Bool) (part : PartSpec) (s : FileState) → lists_in lists s ≡ lists
-    → (m n : ℕ) → ArePortsOf (Some (spec_for lists part)) (growth_in (spec_for lists part)
+    → (m n : ℕ) → ArePortsOf (Some (csv_spec lists part)) (growth_in (csv_spec lists part)
     (stage_in part s)) m n ≡ ((m ≡ inputs_in s) × (n ≡ 1))
 ports-are false part Shut read m n = refl
 ports-are false part (Fetching held) read m n = refl
@@ -38,8 +38,8 @@ ports-are true list (Paths l) read m n =
 
 -- ---- begin
 
-pub source-begins : (lists : Bool) (s : Spec) (part : PartSpec) → kind_of s ≡ kind_for lists
-    → IsSpecOf s part → Begins s (spec_for lists part) (sourcing lists part Shut).own
+pub source-begins : (lists : Bool) (s : Spec) (part : PartSpec) → kind_of s ≡ csv_kind lists
+    → IsSpecOf s part → Begins s (csv_spec lists part) (sourcing lists part Shut).own
 source-begins false s part k (inl e) = record {
   spec = sym e;
   nothing = λ files. rw e
@@ -208,7 +208,7 @@ module _ (list : PartSpec) (l : ListedPaths) where
     nothing = λ none.
         let given : o ≡ None = g.nothing none in (
           ap (λ rows. record idle_own { unmade = rows })
-              (sym (g.rows ∙ ap (λ z. rows_of z ++ left_rows l') given) ∙ refl),
+              (sym (g.rows ∙ ap (λ z. rows_if_some z ++ left_rows l') given) ∙ refl),
           given,
         );
     ends = λ i n. n;
@@ -228,12 +228,12 @@ same-list part l l' paths bad grown = λ i. record (sourcing true part (Paths l'
 
 -- ---- offer
 
-pub reads-file : (lists : Bool) → IsSourceKind (kind_for lists)
+pub reads-file : (lists : Bool) → IsSourceKind (csv_kind lists)
 reads-file false = tt
 reads-file true = tt
 
 pub next-reads : (lists : Bool) (part : PartSpec) (s : FileState) → lists_in lists s ≡ lists
-    → (o : Offer) → IsNext s o → Reads (sourcing lists part s) o
+    → (o : Offer) → IsNextOfSource s o → Reads (sourcing lists part s) o
 next-reads lists part Shut read o e = rw e (reads-file lists, refl)
 next-reads lists part (Fetching held) read o e = rw e (reads-file lists, refl)
 next-reads false part (Rows r) read o e = rw e (rows-reads part r (at_end r.rest) refl)
@@ -242,8 +242,9 @@ next-reads false list (Paths l) read o x = absurd (cc)
 next-reads true list (Paths l) read o x = list-reads list l o x
 
 next-comes : (lists : Bool) (part : PartSpec) (s : FileState) → lists_in lists s ≡ lists
-    → (v : Picture) (o : Offer) → IsNext s o → (in_count v ≡ inputs_in s) × (out_count v ≡ 1)
-    → OfferComes (λ i. open_in s) o (spec_for lists part) v (sourcing lists part s).own
+    → (v : Picture) (o : Offer) → IsNextOfSource s o → (in_count v ≡ inputs_in s)
+    × (out_count v ≡ 1) → OfferComes (λ i. open_in s) o (csv_spec lists part) v
+    (sourcing lists part s).own
 next-comes lists part Shut read v o e ports = rw e tt
 next-comes lists part (Fetching held) read v o e ports = rw e tt
 next-comes false part (Rows r) read v o e ports =
@@ -253,11 +254,11 @@ next-comes false list (Paths l) read v o x ports = absurd (cc)
 next-comes true list (Paths l) read v o x ports = list-comes list l v o x ports
 
 pub next-offers : (lists : Bool) (part : PartSpec) (s : FileState) → lists_in lists s ≡ lists
-    → (v : Picture) (o : Offer) → IsNext s o → (in_count v ≡ inputs_in s) × (out_count v ≡ 1)
-    → Offers (λ i. open_in s) (spec_for lists part) v (sourcing lists part s).own
-    (sourcing lists part s).own o
+    → (v : Picture) (o : Offer) → IsNextOfSource s o → (in_count v ≡ inputs_in s)
+    × (out_count v ≡ 1) → Offers (λ i. open_in s) (csv_spec lists part) v
+    (sourcing lists part s).own (sourcing lists part s).own o
 next-offers lists part s read v o x ports = record {
-  leaves = leaves-same (spec_for lists part) (sourcing lists part s).own;
+  leaves = leaves-same (csv_spec lists part) (sourcing lists part s).own;
   comes = next-comes lists part s read v o x ports;
   ends = λ i lt n. inl n;
 }

@@ -1,5 +1,5 @@
 -- The clauses of a source's calls.
-use Rattle.csv_procs.proofs.Imports.{ArePartBytes, AreResized, Bool, BoxPicture, Err, Expands, Fails, FaultComes, FaultHolds, FaultInCall, FaultIsDue, Faults, Fetching, FileState, Growth, Held, IfErr, IfOk, IfSome, IsFile, IsLongFile, IsLongTold, IsRead, IsWholeFile, IsWorkOf, KeepsList, KeepsPart, KeepsRows, KeepsSame, Kind, KnowsList, List, ListedPaths, Lists, MatchesReader, None, Notes, NotesEnd, OfPart, Ok, Option, OwnState, PartMatchesReader, PartSpec, Paths, Position, Prepared, ReaderState, ReaderView, Result, RowCount, Rows, Schedules, Shut, Some, Status, StaysAt, StepComes, StepsTo, Told, Wake, WakeComes, WorkFault, ap, arith, bad_line_in, bad_place, bad_place_in, chunk_rows, cond, false, file_of, files_of, good_rows, grown-keeps, growth_form, had-same, held_made, held_unworked, inl, inr, is_fetched, is_grown, kept_input, kept_inputs, kept_output, kept_outputs, kind_for, length, list_growth, list_uses, lists_in, option_map, part, part_seen, paths_of, refl, rows_of, source_of, source_uses, sourcing, spec_for, spec_growth, stage_in, subst, sym, told_as_pairs, true, unmade_in, with_answer, ℕ, ◌++◌, ◌+◌, ◌<◌, ◌∙◌, ◌≡◌}
+use Rattle.csv_procs.proofs.Imports.{ArePartBytes, AreResized, Bool, BoxPicture, Err, Expands, Fails, FaultComes, FaultHolds, FaultInCall, FaultIsDue, Faults, Fetching, FileState, Growth, Held, IfErr, IfOk, IfSome, IsFile, IsLongFile, IsLongTold, IsRead, IsWholeFile, IsWorkOf, KeepsList, KeepsPart, KeepsRows, KeepsSame, Kind, KnowsList, List, ListedPaths, Lists, MatchesReader, None, Notes, NotesEnd, OfPart, Ok, Option, OwnState, PartMatchesReader, PartSpec, Paths, Position, Prepared, ReaderState, ReaderView, Result, RowCount, Rows, Schedules, Shut, Some, Status, StaysAt, StepComes, StepsTo, ToldFiles, Wake, WakeComes, WorkFault, ap, arith, bad_line_in, bad_place, bad_place_in, chunk_rows, cond, csv_kind, csv_spec, false, file_of, files_of, good_rows, grown-keeps, growth_form, had-same, held_made, held_unworked, inl, inr, is_fetched, is_grown, kept_input, kept_inputs, kept_output, kept_outputs, length, list_growth, list_uses, lists_in, loaded_seen, option_map, paths_of, refl, rows_if_some, shell_state, source_of, source_unmade, source_uses, sourcing, spec_growth, stage_in, subst, sym, told_as_pairs, true, with_answer, ℕ, ◌++◌, ◌+◌, ◌<◌, ◌∙◌, ◌≡◌}
 use Rattle.proc_api.specs.declared.status.Wake.TheVariants as wake
 use Rattle.proc_api.specs.declared.status.WorkFault.TheVariants as fault
 
@@ -8,21 +8,22 @@ use Rattle.proc_api.specs.declared.status.WorkFault.TheVariants as fault
 false-true : {A : Type 0} → false ≡ true → A
 false-true e = absurd (cc)
 
-abbrev pub reads : Told → (f pd : ℕ) → Option ReaderView
+abbrev pub reads : ToldFiles → (f pd : ℕ) → Option ReaderView
 reads told f pd = Some (record { files = option_map files_of told; faults = f; pendings = pd })
 
 -- a source whose file is so far
-abbrev source : Told → (f pd : ℕ) → RowCount → Bool → PartSpec → FileState → Held → Notes
+abbrev source : ToldFiles → (f pd : ℕ) → RowCount → Bool → PartSpec → FileState → Held → Notes
     → BoxPicture
 source told f pd count lists part' s h n =
-    part_seen (kind_for lists) (reads told f pd) count (part (sourcing lists part' s) h n)
+    loaded_seen (csv_kind lists) (reads told f pd) count (shell_state (sourcing lists part' s) h n)
 
 -- a bad place or line that is found is that of the file
-pub fault-told : (told : Told) (position : Position) (f pd : ℕ) (k : Kind) (count : RowCount)
+pub fault-told : (told : ToldFiles) (position : Position) (f pd : ℕ) (k : Kind) (count : RowCount)
     (lists : Bool) (part' : PartSpec) (s : FileState) (h : Held) (n : Notes)
     → MatchesReader told position lists part' (stage_in part' s) n.given n.pendings
     → (e : WorkFault) → Fails (sourcing lists part' s) e
-    → FaultIsDue (Some e) (part_seen k (reads told f pd) count (part (sourcing lists part' s) h n))
+    → FaultIsDue (Some e)
+    (loaded_seen k (reads told f pd) count (shell_state (sourcing lists part' s) h n))
 fault-told told position f pd k count lists part' s h n t fault.Memory y = tt
 fault-told None position f pd k count false part' s h n t (fault.Bad place) y = tt
 fault-told None position f pd k count true part' s h n t (fault.BadList line) y = tt
@@ -44,19 +45,20 @@ fault-told told position f pd k count false part' s h n t (fault.BadList line) y
 fault-told told position f pd k count lists part' s h n t e y = absurd y
 
 -- a source without a fault matches its reader
-pub tied-now : (told : Told) (position : Position) (lists : Bool) (part' : PartSpec) (s : FileState)
+pub tied-now : (told : ToldFiles) (position : Position) (lists : Bool) (part' : PartSpec)
+    (s : FileState)
     (h : Held) (n : Notes)
-    → PartMatchesReader told position (Some (part (sourcing lists part' s) h n)) → n.fault ≡ None
-    → MatchesReader told position lists part' (stage_in part' s) n.given n.pendings
+    → PartMatchesReader told position (Some (shell_state (sourcing lists part' s) h n)) → n.fault
+    ≡ None → MatchesReader told position lists part' (stage_in part' s) n.given n.pendings
 tied-now told position false part' s h n tied faultless = tied faultless
 tied-now told position true part' s h n tied faultless = tied faultless
 
-told-bytes : (told : Told) (path bytes : List ℕ) → IsFile told path bytes
+told-bytes : (told : ToldFiles) (path bytes : List ℕ) → IsFile told path bytes
     → ArePartBytes (option_map files_of told) path bytes
 told-bytes None path bytes e = tt
 told-bytes (Some all) path bytes e = told_as_pairs all path ∙ e
 
-long-pairs : (told : Told) (path : List ℕ) → IsLongTold told path 1073741824
+long-pairs : (told : ToldFiles) (path : List ℕ) → IsLongTold told path 1073741824
     → IfSome (option_map files_of told) (λ files. IsLongFile files path)
 long-pairs None path x = tt
 long-pairs (Some all) path x =
@@ -67,7 +69,7 @@ long-pairs (Some all) path x =
 -- a step of a source, which notes nothing of its view
 module _ (d e : ReaderState) (count : RowCount) (lists : Bool) (part' : PartSpec) (h : Held)
     (n : Notes) (given faults pendings : ℕ) where
-  abbrev told : Told
+  abbrev told : ToldFiles
   told = d.files
 
   abbrev noted : Notes
@@ -97,7 +99,7 @@ module _ (d e : ReaderState) (count : RowCount) (lists : Bool) (part' : PartSpec
 
   -- a list that isn't fetched whole has passed on nothing, and what it knows then is of the file
   list-step : (s s' : FileState) (a : Wake) → is_fetched s ≡ false
-      → unmade_in part'.types s ≡ unmade_in part'.types s'
+      → source_unmade part'.types s ≡ source_unmade part'.types s'
       → KnowsList part' (option_map files_of told) (file_of (Q true s' (Ok a)))
       → (ins outs : Lists) → KeepsList part' (P true s) ins outs
       → KeepsList part' (Q true s' (Ok a)) ins outs
@@ -136,8 +138,8 @@ module _ (d e : ReaderState) (count : RowCount) (lists : Bool) (part' : PartSpec
   }
 
   step-rows : (b : Bool) (s s' : FileState) (a : Wake) → StepsTo told b part' s n s' noted a
-      → (ins outs : Lists) → KeepsRows (Some (spec_for b part')) (P b s) ins outs
-      → KeepsRows (Some (spec_for b part')) (Q b s' (Ok a)) ins outs
+      → (ins outs : Lists) → KeepsRows (Some (csv_spec b part')) (P b s) ins outs
+      → KeepsRows (Some (csv_spec b part')) (Q b s' (Ok a)) ins outs
   unfolding kept_output
   step-rows false Shut (Fetching held) wake.Later x ins outs t =
       unread Shut held wake.Later refl outs t
@@ -165,13 +167,13 @@ module _ (d e : ReaderState) (count : RowCount) (lists : Bool) (part' : PartSpec
       list-step (Fetching held) (Fetching grown) wake.Later refl refl
       (knows-nothing grown wake.Later) ins outs t
   step-rows true (Fetching held) (Paths l) wake.Ready x ins outs t =
-      list-step (Fetching held) (Paths l) wake.Ready refl (sym (ap rows_of x.whole.3))
+      list-step (Fetching held) (Paths l) wake.Ready refl (sym (ap rows_if_some x.whole.3))
       (knows-list l wake.Ready x) ins outs t
   step-rows true (Fetching held) s' wake.Ready x ins outs t = absurd x.whole
   step-rows b s s' a x ins outs t = absurd x
 
   -- no end is noted
-  notes-none : (b : Bool) (own : OwnState) (i : ℕ) → NotesEnd (Some (spec_for b part')) own i → ⊥
+  notes-none : (b : Bool) (own : OwnState) (i : ℕ) → NotesEnd (Some (csv_spec b part')) own i → ⊥
   notes-none false own i y = y
   notes-none true own i y = y
 
@@ -191,14 +193,14 @@ module _ (d e : ReaderState) (count : RowCount) (lists : Bool) (part' : PartSpec
   step-facts (Fetching held) s' wake.Ready x =
       let w = whole-file lists part'.header x.bytes s' x.whole in (
         w.0,
-        ap (λ g. cond g (spec_growth (spec_for lists part') (paths_of s')) None) w.1,
+        ap (λ g. cond g (spec_growth (csv_spec lists part') (paths_of s')) None) w.1,
         (refl, w.2),
       )
   step-facts s s' a x = absurd x
 
   step-idle : (b : Bool) (s s' : FileState) (r : Result Wake WorkFault) → lists_in b s' ≡ b
-      → IsWorkOf (Some (spec_for b part')) (P b s).work
-      → IsWorkOf (Some (spec_for b part')) (Q b s' r).work
+      → IsWorkOf (Some (csv_spec b part')) (P b s).work
+      → IsWorkOf (Some (csv_spec b part')) (Q b s' r).work
   step-idle false s s' r read idle = source_uses false part' s' read (source_of h)
       (held_unworked h) (held_made h) (inl (ap (λ w. w.source) idle, ap (λ w. w.unworked) idle))
   step-idle true s s' r read idle =
@@ -242,7 +244,7 @@ module _ (d e : ReaderState) (count : RowCount) (lists : Bool) (part' : PartSpec
     comes = λ lawful. (step-facts s s' a x.0).2;
   }
 
-  of-part : (b : Bool) (X : PartSpec → Type 0) → X part' → OfPart (Some (spec_for b part')) X
+  of-part : (b : Bool) (X : PartSpec → Type 0) → X part' → OfPart (Some (csv_spec b part')) X
   of-part false X x = x
   of-part true X x = x
 
@@ -287,7 +289,7 @@ module _ (d e : ReaderState) (count : RowCount) (lists : Bool) (part' : PartSpec
 -- ---- expand
 
 -- a valid list that names a path grows by its paths
-module _ (told : Told) (position : Position) (f pd : ℕ) (count : RowCount) (list : PartSpec)
+module _ (told : ToldFiles) (position : Position) (f pd : ℕ) (count : RowCount) (list : PartSpec)
     (h : Held) (n : Notes) (g : Growth) (asks : n.answer ≡ Some (Prepared Status.ExpandPipeline))
     (faultless : n.fault ≡ None) where
   abbrev Had : Bool → FileState → BoxPicture

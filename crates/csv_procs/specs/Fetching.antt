@@ -1,6 +1,6 @@
 -- What a schedule of a source does, and what ties its part to its reader.
 use Rattle.std.specs.Prelude.{◌-◌, ◌<◌, ◌≡◌, ◌≤◌, ◌⊎◌}
-use Rattle.csv_procs.specs.Prelude.{Bool, CountIncreased, Err, Fetched, Fetching, FileEntry, FileState, HoldsFront, HoldsMore, IfSome, IsFile, IsLongFile, IsSome, List, None, Notes, Ok, Option, PartSpec, PassesLimit, Paths, Result, Rows, ShellPart, Shut, Some, Spec, Stage, StandsAtEnd, Wake, WorkFault, bad_line_in, bad_place, false, length, part_records, paths_in, raised, told_bytes, true, ℕ}
+use Rattle.csv_procs.specs.Prelude.{Bool, CountIncreased, Err, Fetched, Fetching, FileEntry, FileState, HoldsFront, HoldsMore, IfSome, IsFile, IsSome, IsToldTooLong, List, LoadedShell, None, Notes, Ok, Option, PartSpec, PassesLimit, Paths, Result, Rows, Shut, Some, SourceStage, Spec, StandsAtEnd, Wake, WorkFault, bad_line_in, bad_place, false, length, part_records, paths_in, raised, told_bytes, true, ℕ}
 use Rattle.query_model.specs.declared.processor_spec.Spec.TheVariants as spec
 use Rattle.csv_rows.specs.declared.file_fetch.Fetched.TheVariants as fetched
 use Rattle.proc_api.specs.declared.status.Wake.TheVariants as wake
@@ -11,12 +11,12 @@ use Rattle.csv_procs.specs.Parts.{IsWholeFile, stage_in}
 abbrev pub Position : Type 0
 Position = Option (List ℕ × ℕ)
 
-abbrev pub Told : Type 0
-Told = Option (List FileEntry)
+abbrev pub ToldFiles : Type 0
+ToldFiles = Option (List FileEntry)
 
 -- a reader: the files that it tells, where it stands, and its counts
 pub record ReaderState : Type 0 where
-  pub files : Told
+  pub files : ToldFiles
   pub position : Position
   pub faults : ℕ
   pub pendings : ℕ
@@ -28,34 +28,36 @@ pub record IsAfter (x y : ReaderState) : Type 0 where
   pub pendings_kept : x.pendings ≤ y.pendings
 
 -- the held bytes begin the file, and are all that the reader gave
-pub record HoldsPart (told : Told) (position : Position) (part : PartSpec) (held : List ℕ)
+pub record HoldsPart (told : ToldFiles) (position : Position) (part : PartSpec) (held : List ℕ)
     (given : ℕ) : Type 0 where
   pub front : HoldsFront told position part.path held
   pub found : IfSome told (λ all. IsSome (told_bytes all part.path))
   pub given_is : given ≡ length held
 
 -- the bad place is that of the bytes, or the paths and the bad line are
-abbrev pub IsKnownOf : Bool → PartSpec → List ℕ → Stage → Type 0
+abbrev pub IsKnownOf : Bool → PartSpec → List ℕ → SourceStage → Type 0
 IsKnownOf false part bytes g = g.bad ≡ bad_place 1 part.types (part_records part.header bytes)
 IsKnownOf true list bytes g =
     (g.paths ≡ paths_in (Some bytes)) × (g.bad_line ≡ bad_line_in (Some bytes))
 
 -- what is known is of the file
-pub record HasRead (told : Told) (lists : Bool) (part : PartSpec) (g : Stage) : Type 0 where
+pub record HasRead (told : ToldFiles) (lists : Bool) (part : PartSpec) (g : SourceStage) : Type
+    0 where
   pub bytes : List ℕ
   pub are : IsFile told part.path bytes
   pub known : IsKnownOf lists part bytes g
 
 -- how far the part is, by its reader's files and where that stands, within the limits
-pub record MatchesReader (told : Told) (position : Position) (lists : Bool) (part : PartSpec)
-    (g : Stage) (given pendings : ℕ) : Type 0 where
+pub record MatchesReader (told : ToldFiles) (position : Position) (lists : Bool) (part : PartSpec)
+    (g : SourceStage) (given pendings : ℕ) : Type 0 where
   pub shut : g.opened ≡ false → given ≡ 0
   pub front : g.opened ≡ true → g.fetched ≡ false → HoldsPart told position part g.held given
   pub read : g.fetched ≡ true → HasRead told lists part g
   pub few_pendings : pendings < 1000000
   pub few_bytes : given ≤ 1073741824
 
-abbrev pub SpecMatchesReader : Told → Position → Spec → Stage → (given pendings : ℕ) → Type 0
+abbrev pub SpecMatchesReader : ToldFiles → Position → Spec → SourceStage → (given pendings : ℕ)
+    → Type 0
 SpecMatchesReader told position (spec.Csv part) g given pendings =
     MatchesReader told position false part g given pendings
 SpecMatchesReader told position (spec.List list) g given pendings =
@@ -63,7 +65,7 @@ SpecMatchesReader told position (spec.List list) g given pendings =
 SpecMatchesReader told position s g given pendings = Unit {0}
 
 -- as long as no fault is kept
-abbrev pub PartMatchesReader : Told → Position → Option ShellPart → Type 0
+abbrev pub PartMatchesReader : ToldFiles → Position → Option LoadedShell → Type 0
 PartMatchesReader told position None = Unit {0}
 PartMatchesReader told position (Some p) = p.notes.fault ≡ None
     → SpecMatchesReader told position p.kernel.spec p.kernel.stage p.notes.given p.notes.pendings
@@ -99,13 +101,14 @@ ReadGives x y held grown n n' (Err e) = ⊥
 -- ---- one step
 
 -- all of the file is there
-pub record IsRead (told : Told) (lists : Bool) (part : PartSpec) (s : FileState) : Type 0 where
+pub record IsRead (told : ToldFiles) (lists : Bool) (part : PartSpec) (s : FileState) : Type 0 where
   pub bytes : List ℕ
   pub are : IsFile told part.path bytes
   pub whole : IsWholeFile lists part.header bytes s
 
 -- a step of the fetch, by its answer
-abbrev pub StepsTo : Told → Bool → PartSpec → FileState → Notes → FileState → Notes → Wake → Type 0
+abbrev pub StepsTo : ToldFiles → Bool → PartSpec → FileState → Notes → FileState → Notes → Wake
+    → Type 0
 StepsTo told lists part Shut n (Fetching held) n' wake.Later = Unit {0}
 StepsTo told lists part (Fetching held) n (Fetching grown) n' wake.Later =
     (n.given < n'.given) ⊎ (n.pendings < n'.pendings)
@@ -122,7 +125,7 @@ FaultComes fault.Memory x y part n = IsWithin n
 FaultComes fault.Read x y part n = IsWithin n × CountIncreased x.faults y.faults × (0 < n.faults)
 FaultComes fault.Stalled x y part n = (n.pendings ≡ 1000000) × (n.given ≤ 1073741824)
 FaultComes fault.TooLong x y part n =
-    (n.pendings < 1000000) × (1073741824 < n.given) × IsLongFile x.files part.path 1073741824
+    (n.pendings < 1000000) × (1073741824 < n.given) × IsToldTooLong x.files part.path 1073741824
 FaultComes e x y part n = ⊥
 
 -- a file that is opened or fetched whole stays so, and nothing more

@@ -1,5 +1,5 @@
 -- What is seen of a source of rows by its file.
-use Rattle.csv_procs.specs.Prelude.{BoxPicture, Files, Kind, List, Option, ReaderView, RowCount, ShellPart, Some, shell_seen, ℕ}
+use Rattle.csv_procs.specs.Prelude.{BoxPicture, Files, Kind, List, LoadedShell, Option, ReaderView, RowCount, Some, shell_seen, ℕ}
 
 -- what a contract sees: the files that its reader tells, the reader's counts, and what is loaded
 pub record SourceView : Type 0 where
@@ -9,7 +9,7 @@ pub record SourceView : Type 0 where
   -- where the reader stands
   pub position : Option (List ℕ × ℕ)
   pub count : RowCount
-  pub loaded : Option ShellPart
+  pub loaded : Option LoadedShell
 
 abbrev pub reader_of : SourceView → ReaderView
 reader_of s = record { files = s.files; faults = s.faults; pendings = s.pendings }

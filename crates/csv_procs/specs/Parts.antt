@@ -1,19 +1,19 @@
 -- A part or list inside its source.
 use Rattle.std.specs.Prelude.{◌+◌, ◌++◌, ◌<◌, ◌==◌, ◌≡◌, ◌≤◌, ◌⊎◌}
-use Rattle.csv_procs.specs.Prelude.{BadPlace, Bool, ColumnType, Fetching, FileState, Growth, IfSome, IsSome, KernelState, Kind, List, ListedPaths, None, Offer, Option, PartSpec, Paths, Row, Rows, Shut, Some, Spec, Stage, Table, [], at_end, bad_line_in, bad_place, cond, false, good_rows, growth_form, idle_own, length, list_growth, part_records, paths_in, rows_of, true, ℕ}
+use Rattle.csv_procs.specs.Prelude.{BadPlace, Bool, ColumnType, Fetching, FileState, Growth, IfSome, IsSome, KernelState, Kind, List, ListedPaths, None, Offer, Option, PartSpec, Paths, Row, Rows, Shut, Some, SourceStage, Spec, Table, [], at_end, bad_line_in, bad_place, cond, false, good_rows, growth_form, idle_own, length, list_growth, part_records, paths_in, rows_if_some, true, ℕ}
 use Rattle.query_model.specs.declared.processor_spec.Kind.TheVariants as kind
 use Rattle.query_model.specs.declared.processor_spec.Spec.TheVariants as spec
 use Rattle.proc_shell.specs.declared.kernel.Offer.TheVariants as offer
 
 -- ---- by whether it is a list
 
-abbrev pub kind_for : Bool → Kind
-kind_for false = kind.Csv
-kind_for true = kind.List
+abbrev pub csv_kind : Bool → Kind
+csv_kind false = kind.Csv
+csv_kind true = kind.List
 
-abbrev pub spec_for : Bool → PartSpec → Spec
-spec_for false part = spec.Csv part
-spec_for true list = spec.List list
+abbrev pub csv_spec : Bool → PartSpec → Spec
+csv_spec false part = spec.Csv part
+csv_spec true list = spec.List list
 
 -- the spec is that of a part, or of a list
 abbrev pub IsSpecOf : Spec → PartSpec → Type 0
@@ -57,15 +57,15 @@ is_grown (Paths l) = l.grown
 is_grown s = false
 
 abbrev pub left_rows : ListedPaths → List Row
-left_rows l = rows_of l.left
+left_rows l = rows_if_some l.left
 
 -- the rows that aren't made yet
-abbrev pub unmade_in : List ColumnType → FileState → List Row
-unmade_in types (Rows r) = good_rows types r.rest
-unmade_in types (Paths l) = left_rows l
-unmade_in types s = []
+abbrev pub source_unmade : List ColumnType → FileState → List Row
+source_unmade types (Rows r) = good_rows types r.rest
+source_unmade types (Paths l) = left_rows l
+source_unmade types s = []
 
-abbrev pub stage_in : PartSpec → FileState → Stage
+abbrev pub stage_in : PartSpec → FileState → SourceStage
 stage_in part s = record {
   opened = is_opened s;
   fetched = is_fetched s;
@@ -79,9 +79,9 @@ stage_in part s = record {
 
 abbrev pub sourcing : Bool → PartSpec → FileState → KernelState
 sourcing lists part s = record {
-  kind = kind_for lists;
-  spec = spec_for lists part;
-  own = record idle_own { unmade = unmade_in part.types s };
+  kind = csv_kind lists;
+  spec = csv_spec lists part;
+  own = record idle_own { unmade = source_unmade part.types s };
   stage = stage_in part s;
 }
 
@@ -118,7 +118,7 @@ IsWholeFile true header bytes (Paths l) =
 IsWholeFile lists header bytes s = ⊥
 
 -- nothing is bad, and nothing is left of a chunk
-pub record IsClear (l : ListedPaths) : Type 0 where
+pub record IsListUsedUp (l : ListedPaths) : Type 0 where
   pub valid : l.bad_line ≡ None
   pub nothing_left : length (left_rows l) ≡ 0
 
@@ -126,27 +126,28 @@ pub record IsClear (l : ListedPaths) : Type 0 where
 abbrev pub IsNextOfList : ListedPaths → Offer → Type 0
 IsNextOfList l offer.Record = IsSome l.bad_line
 IsNextOfList l offer.Rows = (l.bad_line ≡ None) × (0 < length (left_rows l))
-IsNextOfList l offer.Grow = IsClear l × (l.grown ≡ false) × (0 < length l.paths)
-IsNextOfList l offer.Wants = IsClear l × ((l.grown ≡ true) ⊎ (length l.paths ≡ 0))
+IsNextOfList l offer.Grow = IsListUsedUp l × (l.grown ≡ false) × (0 < length l.paths)
+IsNextOfList l offer.Wants = IsListUsedUp l × ((l.grown ≡ true) ⊎ (length l.paths ≡ 0))
 IsNextOfList l _ = ⊥
 
 -- what comes next
-abbrev pub IsNext : FileState → Offer → Type 0
-IsNext (Rows r) o = o ≡ cond (at_end r.rest) offer.Wants offer.Record
-IsNext (Paths l) o = IsNextOfList l o
-IsNext s o = o ≡ offer.Fetch
+abbrev pub IsNextOfSource : FileState → Offer → Type 0
+IsNextOfSource (Rows r) o = o ≡ cond (at_end r.rest) offer.Wants offer.Record
+IsNextOfSource (Paths l) o = IsNextOfList l o
+IsNextOfSource s o = o ≡ offer.Fetch
 
 -- the first rows that are left are given, of one chunk
 pub record GivesLeft (most : ℕ) (old new given : Option Table) : Type 0 where
-  pub rows : rows_of old ≡ rows_of given ++ rows_of new
+  pub rows : rows_if_some old ≡ rows_if_some given ++ rows_if_some new
   pub within : IfSome given (λ (t : Table). length t.rows ≤ most)
   pub types : (types : List ColumnType) → types_or types old ≡ types
       → (types_or types given ≡ types) × (types_or types new ≡ types)
-  pub nothing : rows_of old ≡ [] → given ≡ None
-  pub some : (0 < length (rows_of given)) ⊎ (rows_of new ≡ [])
+  pub nothing : rows_if_some old ≡ [] → given ≡ None
+  pub some : (0 < length (rows_if_some given)) ⊎ (rows_if_some new ≡ [])
 
 -- a valid list that names a path and hasn't grown grows by its paths
-pub record Grows (lists : Bool) (list : PartSpec) (old new : FileState) (g : Growth) : Type 0 where
+pub record GrowsByPaths (lists : Bool) (list : PartSpec) (old new : FileState) (g : Growth) : Type
+    0 where
   pub is_list : lists ≡ true
   pub before : ListedPaths
   pub old_is : old ≡ Paths before

@@ -7,11 +7,11 @@ use Rattle.proc_shell.proofs.Lists.{list_shelled}
 use Rattle.proc_shell.proofs.Parts.{part_shelled, part_uses}
 use Rattle.proc_shell.specs.Kernels.{IsShelled, work_of}
 use Rattle.proc_shell.specs.Prelude.{kind_of}
-use Rattle.csv_procs.specs.Parts.{kind_for, lists_in, open_in, sourcing, stage_in}
+use Rattle.csv_procs.specs.Parts.{csv_kind, lists_in, open_in, sourcing, stage_in}
 
 pub source_kinds : (lists : Bool) (part : PartSpec) (s : FileState)
-    → ((sourcing lists part s).kind ≡ kind_for lists)
-    × (kind_of (sourcing lists part s).spec ≡ kind_for lists)
+    → ((sourcing lists part s).kind ≡ csv_kind lists)
+    × (kind_of (sourcing lists part s).spec ≡ csv_kind lists)
 source_kinds false part s = (refl, refl)
 source_kinds true part s = (refl, refl)
 

@@ -1,5 +1,5 @@
 ghost use Rattle.std.specs.Prelude.{◌≡◌};
-ghost use Rattle.csv_procs.specs.Names.{Bool, FileState as State, Grows, IfOk, MatchesReader, OnErr, PartSpec as Part, Steps, kind_for, open_in, sourcing, stage_in, true, ℕ};
+ghost use Rattle.csv_procs.specs.Names.{Bool, FileState as State, GrowsByPaths, IfOk, MatchesReader, OnErr, PartSpec as Part, Steps, csv_kind, open_in, sourcing, stage_in, true, ℕ};
 
 use crate::feeds::Feeds;
 use chunk_data::Memory;
@@ -33,12 +33,12 @@ pub trait FileKernel: Kernel {
     /// Lets a list grow that is valid, names a path, and hasn't grown.
     fn grow(&mut self, alloc: Global) -> Result<Growth, Memory>
         ensures part { part_of self.new ≡ part_of self.old }
-        ensures grows { IfOk result (Grows lists (part_of self.old) (file_of self.old)
+        ensures grows { IfOk result (GrowsByPaths lists (part_of self.old) (file_of self.old)
             (file_of self.new)) }
         ensures unchanged { OnErr result (file_of self.new ≡ file_of self.old) }
         ensures open { open_in (file_of self.new) ≡ open_in (file_of self.old) };
 
-    ghost kinds: { kind_for lists ≡ Self.kind_is };
+    ghost kinds: { csv_kind lists ≡ Self.kind_is };
 
     ghost shows: { (k : Self) → Self.state k ≡ sourcing lists (part_of k) (file_of k) };
 

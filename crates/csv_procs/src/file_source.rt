@@ -1,5 +1,5 @@
 ghost use Rattle.std.specs.Prelude.{◌≡◌};
-ghost use Rattle.csv_procs.specs.Names.{MaySchedule, PartNotes, part};
+ghost use Rattle.csv_procs.specs.Names.{MaySchedule, ShellNotes, shell_state};
 
 use crate::file_kernel::FileKernel;
 use chunk_data::Chunk;
@@ -21,7 +21,7 @@ pub struct FileSource<R: FileReader, K: FileKernel> {
 }
 
 impl<R: FileReader, K: FileKernel> Model for FileSource<R, K> {
-    ghost use Rattle.csv_procs.specs.Names.{PartMatchesReader, SourceView, codes, files_of, option_map, part};
+    ghost use Rattle.csv_procs.specs.Names.{PartMatchesReader, SourceView, codes, files_of, option_map, shell_state};
     ghost use Rattle.query_model.specs.contracts.processor_spec.Spec as spec;
 
     ghost Value = { SourceView };
@@ -34,11 +34,11 @@ impl<R: FileReader, K: FileKernel> Model for FileSource<R, K> {
       pendings = R.pendings s.reader;
       position = R.position s.reader;
       count = s.pulled;
-      loaded = option_map (λ l. part (K.state l.kernel) l.held l.notes) s.loaded;
+      loaded = option_map (λ l. shell_state (K.state l.kernel) l.held l.notes) s.loaded;
     } };
 
     ghost invariant = { λ s. PartMatchesReader (R.files s.reader) (R.position s.reader)
-        (option_map (λ l. part (K.state l.kernel) l.held l.notes) s.loaded) };
+        (option_map (λ l. shell_state (K.state l.kernel) l.held l.notes) s.loaded) };
 }
 
 impl<R: FileReader, K: FileKernel> FileSource<R, K> {
@@ -66,9 +66,9 @@ fn keep_fed<K: Kernel>(
     fed: Result<Wake, WorkFault>,
 ) -> Result<Wake, WorkFault>
     requires { MaySchedule loaded.old.notes.answer }
-    ensures notes { PartNotes fed
-        (part (K.state loaded.old.kernel) loaded.old.held loaded.old.notes)
-        (part (K.state loaded.new.kernel) loaded.new.held loaded.new.notes) }
+    ensures notes { ShellNotes fed
+        (shell_state (K.state loaded.old.kernel) loaded.old.held loaded.old.notes)
+        (shell_state (K.state loaded.new.kernel) loaded.new.held loaded.new.notes) }
     ensures same { result ≡ fed }
 {
     match fed {

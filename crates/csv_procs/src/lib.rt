@@ -14,11 +14,11 @@ mod sourcing;
 pub use csv_rows::{Fetched, fetch, write_rows};
 pub use file_kernel::FileKernel;
 pub use file_source::FileSource;
-pub use sourcing::{Lists, Parts, Sourced, Sourcing};
+pub use sourcing::{PartLists, Parts, Sourced, Sourcing};
 
 /// Gives the rows of a part, a CSV file that its reader fetches whole before the first row is made.
 pub type CsvSource<R> = FileSource<R, Sourcing<Parts>>;
 
 /// Gives the rows of a list of parts: it fetches the list as a source does its part, lets its graph
 /// grow by a source for each path, and passes on what these give.
-pub type ListSource<R> = FileSource<R, Sourcing<Lists>>;
+pub type ListSource<R> = FileSource<R, Sourcing<PartLists>>;

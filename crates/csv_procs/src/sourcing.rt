@@ -1,5 +1,5 @@
 ghost use Rattle.std.specs.Prelude.{◌<◌, ◌^◌, ◌↔◌, ◌≡◌};
-ghost use Rattle.csv_procs.specs.Names.{Bool, HasFitLeft, IfSome, IsNext, IsSpecOf, IsTrue, inputs_in, kind_for, length, lists_in, max, open_in};
+ghost use Rattle.csv_procs.specs.Names.{Bool, HasFitLeft, IfSome, IsNextOfSource, IsSpecOf, IsTrue, csv_kind, inputs_in, length, lists_in, max, open_in};
 
 use crate::file_state::FileState;
 use chunk_data::{Chunk, ColumnType, Memory};
@@ -36,9 +36,9 @@ impl Sourced for Parts {
 
 /// A list of parts.
 #[derive(Clone, Copy, Drop)]
-pub struct Lists;
+pub struct PartLists;
 
-impl Sourced for Lists {
+impl Sourced for PartLists {
     ghost use Rattle.std.specs.Prelude.{true};
 
     ghost lists = { true };
@@ -62,7 +62,7 @@ pub struct Sourcing<S: Sourced> {
 
 // The kind of a source.
 fn source_kind(lists: bool) -> Kind
-    ensures { result ≡ kind_for lists }
+    ensures { result ≡ csv_kind lists }
 {
     if lists { Kind::List } else { Kind::Csv }
 }
@@ -103,7 +103,7 @@ fn inputs_of(state: &FileState) -> usize
 
 // What comes next.
 fn next_of(state: &FileState) -> Offer
-    ensures { IsNext state.now result }
+    ensures { IsNextOfSource state.now result }
 {
     match state {
         FileState::Shut | FileState::Fetching(_) => Offer::Fetch,
@@ -121,7 +121,7 @@ fn next_of(state: &FileState) -> Offer
 impl<S: Sourced> Kernel for Sourcing<S> {
     ghost use Rattle.csv_procs.specs.Names.{source_kinds, source_shelled, source_uses, sourcing};
 
-    ghost kind_is = { kind_for S.lists };
+    ghost kind_is = { csv_kind S.lists };
 
     ghost state = { λ k. sourcing S.lists k.part k.state };
 

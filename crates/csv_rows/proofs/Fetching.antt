@@ -1,10 +1,10 @@
 -- a file that is fetched block by block
 use Rattle.std.proofs.Common.{◌≡◌, ℕ, ◌+◌, ◌<◌, List, [], ◌++◌, length, take, drop, refl, ap, ap₂, sym, ◌∙◌, arith, length-append, Option, Some, ◌∷◌}
-use Rattle.csv_rows.proofs.Prelude.{IfSome, IsSome, drop-take, take-append-drop, take-take, take_all}
+use Rattle.csv_rows.proofs.Imports.{IfSome, IsSome, drop-take, take-append-drop, take-take, take_all}
 use Rattle.outside_io.specs.declared.entries.FileEntry.{FileEntry}
 use Rattle.outside_io.specs.Told.{files_of, told_bytes, moved_by, GivesNext, StandsAtEnd}
 use Rattle.query_model.specs.Database.{file_bytes as pair_bytes}
-use Rattle.csv_rows.specs.Fetching.{HoldsFront, IsFile, IsLongFile}
+use Rattle.csv_rows.specs.Fetching.{HoldsFront, IsFile, IsToldTooLong}
 
 -- a fact of what is told, if anything is
 if_told : {X : Type 0} (o : Option X) {P : X → Type 0} → ((x : X) → o ≡ Some x → P x) → IfSome o P
@@ -54,7 +54,7 @@ HoldsFront-whole {files = files} {path = path} {held = held} h end found =
 pub HoldsFront-beyond : {files : Option (List FileEntry)} {old : Option (List ℕ × ℕ)}
     {path held : List ℕ} {limit : ℕ} → (block : List ℕ) → HoldsFront files old path held
     → GivesNext files old (length block) block → limit < length held + length block
-    → IfSome files (λ all. IsSome (told_bytes all path)) → IsLongFile files path limit
+    → IfSome files (λ all. IsSome (told_bytes all path)) → IsToldTooLong files path limit
 HoldsFront-beyond block h next beyond found = grind (arith, if_told, some_such)
 
 -- the reader's told bytes are those of the files as pairs

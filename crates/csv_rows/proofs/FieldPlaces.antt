@@ -1,13 +1,13 @@
 -- Fields by their places.
 use Rattle.std.proofs.Common.{◌≡◌, ℕ, ◌+◌, ◌<◌, ◌≤◌, ◌==◌, ◌||◌, Bool, true, false, List, [], ◌∷◌, ◌++◌, length, take, drop, get_or, sym, ap, ◌∙◌, arith, append_assoc, length-append, refl}
-use Rattle.csv_rows.proofs.Prelude.{EndsRecord, FieldUpTo, HasMore, SkipsEnds, append-nil, at_mark, dec_lt, default_config, drop-drop, drop_all, drop_more, eqb-true, first_or, is_line_end, next_record, no_mark, no_quote, part, prefix_len, records_at, starts_with, is_mark}
+use Rattle.csv_rows.proofs.Imports.{EndsRecord, FieldUpTo, HasMore, SkipsEnds, append-nil, at_mark, dec_lt, default_config, drop-drop, drop_all, drop_more, eqb-true, first_or, is_line_end, next_record, no_mark, no_quote, bytes_between, prefix_len, records_at, starts_with, is_mark}
 use Rattle.csv.specs.declared.parser.State.TheVariants as st
 use Rattle.csv_rows.proofs.ByteRuns.{run_bound}
-use Rattle.csv_rows.proofs.MachineSteps.{copied, quoted_copies, prefix_stops, plain_run, plain_field, one_more, records_skip, last_in_line, last_of_text}
+use Rattle.csv_rows.proofs.MachineSteps.{copies_join_field, quoted_copies, prefix_stops, plain_run, plain_field, one_more, records_skip, last_in_line, last_of_text}
 
 -- a run of bytes that pass a test, by its places
 run_part : (q : ℕ → Bool) (bytes : List ℕ) (at end : ℕ) → end ≡ at + prefix_len q (drop at bytes)
-    → (take (prefix_len q (drop at bytes)) (drop at bytes) ≡ part bytes at end)
+    → (take (prefix_len q (drop at bytes)) (drop at bytes) ≡ bytes_between bytes at end)
     × (drop (prefix_len q (drop at bytes)) (drop at bytes) ≡ drop end bytes)
 run_part q bytes at end e = grind (arith, drop-drop)
 
@@ -26,7 +26,7 @@ first_within c bytes at h = grind (arith, dec_lt, drop_all)
 -- a field without quotes, up to the next mark
 pub plain_upto : (bytes : List ℕ) (at end : ℕ) → end ≡ at + prefix_len no_mark (drop at bytes)
     → at ≤ length bytes → starts_with 34 (drop at bytes) ≡ false
-    → FieldUpTo bytes at (part bytes at end) end
+    → FieldUpTo bytes at (bytes_between bytes at end) end
 plain_upto bytes at end e le q =
     let run = run_part no_mark bytes at end e in
     record {
@@ -59,12 +59,12 @@ quoted_starts bytes at field lt q e = grind (arith, first_is)
 -- the bytes up to the next quote
 quoted_run : {bytes : List ℕ} {at i : ℕ} {field : List ℕ} → (j : ℕ)
     → j ≡ i + prefix_len no_quote (drop i bytes) → QuotedSoFar bytes at field i
-    → QuotedSoFar bytes at (field ++ part bytes i j) j
+    → QuotedSoFar bytes at (field ++ bytes_between bytes i j) j
 quoted_run {bytes = bytes} {i = i} {field = field} j e h =
     let run = run_part no_quote bytes i j e in
     record {
       reads = λ fields. h.reads fields
-          ∙ copied st.InQuoted no_quote quoted_copies fields field (drop i bytes)
+          ∙ copies_join_field st.InQuoted no_quote quoted_copies fields field (drop i bytes)
           ∙ rw (run.0, run.1) refl;
       low = omega (arith, e, h.low);
       high = omega (arith, e, run_bound no_quote bytes i h.high);
@@ -81,7 +81,7 @@ quote_stops bytes i j e lt = first_is true 34 bytes j lt
 pub quoted_twice : {bytes : List ℕ} {at i : ℕ} {field : List ℕ} → (j : ℕ)
     → j ≡ i + prefix_len no_quote (drop i bytes) → j < length bytes
     → starts_with 34 (drop (j + 1) bytes) ≡ true → QuotedSoFar bytes at field i
-    → QuotedSoFar bytes at ((field ++ part bytes i j) ++ 34 ∷ []) (j + 2)
+    → QuotedSoFar bytes at ((field ++ bytes_between bytes i j) ++ 34 ∷ []) (j + 2)
 unfolding next_record
 quoted_twice {bytes = bytes} {i = i} {field = field} j e lt q before =
     let h = quoted_run j e before in
@@ -99,7 +99,7 @@ pub quoted_closes : {bytes : List ℕ} {at i : ℕ} {field : List ℕ} → (j en
     → j ≡ i + prefix_len no_quote (drop i bytes) → j < length bytes
     → starts_with 34 (drop (j + 1) bytes) ≡ false
     → end ≡ j + 1 + prefix_len no_mark (drop (j + 1) bytes) → QuotedSoFar bytes at field i
-    → FieldUpTo bytes at ((field ++ part bytes i j) ++ part bytes (j + 1) end) end
+    → FieldUpTo bytes at ((field ++ bytes_between bytes i j) ++ bytes_between bytes (j + 1) end) end
 unfolding next_record
 quoted_closes {bytes = bytes} {i = i} {field = field} j end e lt q stop before =
     let h = quoted_run j e before in
@@ -109,8 +109,8 @@ quoted_closes {bytes = bytes} {i = i} {field = field} j end e lt q stop before =
       high = omega (arith, stop, run_bound no_mark bytes (j + 1) (omega (arith, lt)));
       begins = record {
         reads = λ fields. h.reads fields ∙ rw (quote_stops bytes i j e lt)
-            (closed_plain (field ++ part bytes i j) fields (drop (j + 1) bytes) q
-            ∙ plain_run fields (field ++ part bytes i j) (drop (j + 1) bytes)
+            (closed_plain (field ++ bytes_between bytes i j) fields (drop (j + 1) bytes) q
+            ∙ plain_run fields (field ++ bytes_between bytes i j) (drop (j + 1) bytes)
             ∙ rw (run.0, run.1) refl);
         ends = ap at_mark (sym run.1) ∙ prefix_stops is_mark (drop (j + 1) bytes);
       };
@@ -119,7 +119,7 @@ quoted_closes {bytes = bytes} {i = i} {field = field} j end e lt q stop before =
 -- quotes that aren't closed end with the text
 pub quoted_open : {bytes : List ℕ} {at i : ℕ} {field : List ℕ} → (j : ℕ)
     → j ≡ i + prefix_len no_quote (drop i bytes) → j ≡ length bytes → QuotedSoFar bytes at field i
-    → FieldUpTo bytes at (field ++ part bytes i j) j
+    → FieldUpTo bytes at (field ++ bytes_between bytes i j) j
 unfolding next_record
 quoted_open {bytes = bytes} j e all before =
     let h = quoted_run j e before in

@@ -3,6 +3,6 @@ pub mod MachineSteps
 pub mod ByteRuns
 pub mod FieldPlaces
 pub mod PartPlaces
-pub mod Prelude
+pub mod Imports
 pub mod Fetching
 pub mod ShortNumbers

@@ -1,21 +1,21 @@
 -- The machine of the `csv` crate, by fields and lines.
 use Rattle.std.proofs.Common.{◌≡◌, ℕ, suc, ◌+◌, ◌==◌, ◌&&◌, Bool, true, false, cond, not, List, [], ◌∷◌, ◌++◌, take, drop, refl, ap, ◌∙◌, arith, append_assoc, Option, Some, None}
-use Rattle.csv_rows.proofs.Prelude.{BeginsField, BeginsFields, FirstRecord, IsSome, Read, and_parts, append-nil, at_end, default_config, ends_at_end, eqb-true, first_or, is_end, is_line_end, next_record, no_mark, no_quote, not-true, or_cases, or_parts, prefix_len, records_from, records_next, starts_line, starts_with, state_code, step, is_mark}
+use Rattle.csv_rows.proofs.Imports.{BeginsField, BeginsFields, FirstRecord, IsSome, Read, and_parts, append-nil, at_end, default_config, ends_at_end, eqb-true, first_or, is_end, is_line_end, next_record, no_mark, no_quote, not-true, or_cases, or_parts, prefix_len, records_from, records_next, starts_line, starts_with, state_code, step, is_mark}
 use Rattle.csv.specs.declared.parser.State.{State}
 use Rattle.csv.specs.declared.parser.State.TheVariants as st
 use Rattle.csv.specs.declared.parser.Action.TheVariants as act
 
 -- bytes that a state copies join the field, up to the first that it does not
-pub copied : (s : State) (q : ℕ → Bool)
+pub copies_join_field : (s : State) (q : ℕ → Bool)
     → ((c : ℕ) → q c ≡ true → step default_config s c ≡ (s, act.Copy))
     → (fields : List (List ℕ)) (field xs : List ℕ)
     → next_record default_config s fields field xs
     ≡ next_record default_config s fields (field ++ take (prefix_len q xs) xs)
     (drop (prefix_len q xs) xs)
 unfolding next_record
-copied s q h fields field [] = rw (append-nil field) refl
-copied s q h fields field (c ∷ xs) =
-    go (q c) refl (copied s q h fields (field ++ c ∷ []) xs)
+copies_join_field s q h fields field [] = rw (append-nil field) refl
+copies_join_field s q h fields field (c ∷ xs) =
+    go (q c) refl (copies_join_field s q h fields (field ++ c ∷ []) xs)
   where
     go : (b : Bool) → q c ≡ b → next_record default_config s fields (field ++ c ∷ []) xs
         ≡ next_record default_config s fields ((field ++ c ∷ []) ++ take (prefix_len q xs) xs)
@@ -57,7 +57,7 @@ pub plain_run : (fields : List (List ℕ)) (field xs : List ℕ)
     → next_record default_config st.InField fields field xs
     ≡ next_record default_config st.InField fields (field ++ take (prefix_len no_mark xs) xs)
     (drop (prefix_len no_mark xs) xs)
-plain_run = copied st.InField no_mark plain_copies
+plain_run = copies_join_field st.InField no_mark plain_copies
 
 -- where no quote stands, the start of a field is like its inside
 start_plain : (fields : List (List ℕ)) (field xs : List ℕ) → starts_with 34 xs ≡ false

@@ -1,6 +1,6 @@
 -- What is left of a part at a place.
 use Rattle.std.proofs.Common.{◌≡◌, ◌≢◌, ℕ, zero, suc, ◌+◌, ◌-◌, ◌<◌, ◌≤◌, Bool, true, false, cond, List, [], ◌∷◌, length, drop, map, get_or, refl, sym, ap, ◌∙◌, arith, length-drop, eq-eqb, Some}
-use Rattle.csv_rows.proofs.Prelude.{AddsFirst, Column, FieldUpTo, FirstRecord, HasMore, IsBadAt, OnBad, RowsLeft, SkipsEnds, StartsLine, StartsPart, TakesRow, at_end, dec_lt, default_config, drop_all, is_bom, column_type, nat_eq, ne_eqb, records, records_at, records_from, spelled_row-fits, starts_line, strip_bom}
+use Rattle.csv_rows.proofs.Imports.{AddsFirst, Column, FieldUpTo, FirstRecord, HasMore, IsBadRecordAt, OnBad, RowsLeft, SkipsEnds, StartsLine, StartsPart, TakesRow, at_end, dec_lt, default_config, drop_all, is_bom, column_type, nat_eq, ne_eqb, records, records_at, records_from, spelled_row-fits, starts_line, strip_bom}
 use Rattle.csv.specs.declared.parser.State.TheVariants as st
 use Rattle.query_model.specs.Parts.{part_records, good_rows, bad_place}
 use Rattle.csv_rows.specs.declared.rows.RowsFault.{RowsFault}
@@ -41,7 +41,7 @@ row_here left bytes at next old number before after some is n h =
 -- the first of them is no row
 pub bad_here : (left : ℕ) (bytes : List ℕ) (at number : ℕ) (columns : List Column)
     (rest : List (List (List ℕ))) (fault : RowsFault) → at_end rest ≡ false
-    → records_at left bytes at ≡ rest → OnBad fault (IsBadAt columns bytes at number)
+    → records_at left bytes at ≡ rest → OnBad fault (IsBadRecordAt columns bytes at number)
     → OnBad fault (λ place. bad_place number (map column_type columns) rest ≡ Some place)
 unfolding bad_place
 bad_here left bytes at number columns rest Memory some is h = tt

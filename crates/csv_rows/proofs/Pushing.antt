@@ -2,7 +2,7 @@
 use Rattle.chunk_data.proofs.ColumnLists.{Joined-back, Joined-none}
 use Rattle.csv_rows.proofs.FieldPlaces.{first_is, first_within}
 use Rattle.csv_rows.proofs.MachineSteps.{one_more, record_starts}
-use Rattle.csv_rows.proofs.Prelude.{AddsRecord, AddsSpelled, AreLong, AreLong_push, BeginsFields, Column, EndsRecord, FieldUpTo, HasMore, IsBadAt, Judged, Pushes, PushesFirst, ReadsFirst, ReadsFront, RowsLeft, TakesBack, TakesRow, at_end, bad_column, bad_field-lengths, bad_place, both_spelled, get_or-map, good_rows, column_type, length-FitsTypes, length-append, length-map, length-rows_of, map-set, rows_of, rows_of_push, set-get_or, spelled_row, spelled_row-lengths, spelled_value, starts_line, starts_with, take_at, values}
+use Rattle.csv_rows.proofs.Imports.{AddsRecord, AddsSpelled, AreLong, AreLong_push, BeginsFields, Column, EndsRecord, FieldUpTo, HasMore, IsBadRecordAt, Judged, PushesField, PushesFirst, ReadsFirst, ReadsFront, RowsLeft, CanTakeBack, TakesRow, at_end, bad_column, bad_field-lengths, bad_place, both_spelled, get_or-map, good_rows, column_type, length-FitsTypes, length-append, length-map, length-rows_of, map-set, rows_of, rows_of_push, set-get_or, spelled_row, spelled_row-lengths, spelled_value, starts_line, starts_with, take_at, values}
 use Rattle.csv_rows.specs.declared.record_by_field.RecordRead.{RecordRead}
 use Rattle.query_model.specs.declared.places.BadField.TheVariants.{Fields as fields_field}
 use Rattle.std.proofs.Common.{Bool, List, None, [], ap, append_assoc, ap₂, arith, drop, false, get_or, length, map, refl, set, subst, suc, take, true, zero, ℕ, ◌++◌, ◌+◌, ◌<◌, ◌∙◌, ◌∷◌, ◌≡◌, ◌≢◌, ◌≤◌, sym}
@@ -55,7 +55,7 @@ front_long fields old now h = grind (arith, length-map, front_kinds)
 
 -- what was added is taken back
 pub front_back : (fields : List (List ℕ)) (old now : List Column) → Front fields old now
-    → TakesBack old now
+    → CanTakeBack old now
 front_back fields old now h = record {
   kinds = front_kinds fields old now h;
   front = λ n long. go n fields old now h long;
@@ -86,7 +86,7 @@ front_stops (g ∷ fields) f more old now d h lt u = absurd h
 -- the same where column i was then left as it is
 pub back_at : (fields : List (List ℕ)) (old now : List Column) (i : ℕ) (d y : Column)
     → Front fields old now → i < length now → column_type y ≡ column_type (get_or now i d)
-    → values y ≡ values (get_or now i d) → TakesBack old (set now i y)
+    → values y ≡ values (get_or now i d) → CanTakeBack old (set now i y)
 back_at fields old now i d y h lt k v = record {
   kinds = same column_type k ∙ (front_back fields old now h).kinds;
   front = λ n long. ap (map (take n)) (same values v) ∙ (front_back fields old now h).front n long;
@@ -130,7 +130,7 @@ row_more {bytes = bytes} {f = f} {end = end} {i = i} {old = old} {now = now} d y
 pub row_back : {bytes f : List ℕ} {at place end i : ℕ} {old now : List Column} → (spelled : Bool)
     (d y : Column) → RowSoFar bytes at place old now i → i < length now
     → column_type y ≡ column_type (get_or now i d) → FieldUpTo bytes place f end
-    → Pushes f spelled (get_or now i d) y → TakesBack old (set now i y)
+    → PushesField f spelled (get_or now i d) y → CanTakeBack old (set now i y)
 row_back {f = f} {i = i} {old = old} {now = now} true d y h lt k upto p =
     front_back (h.fields ++ f ∷ []) old (set now i y)
     (front_more h.fields f old now i d y h.added h.count lt k p)
@@ -150,7 +150,7 @@ row_reads more h upto line = grind arith
 pub row_ends : {bytes f : List ℕ} {at place end i : ℕ} {old now : List Column} {read : RecordRead}
     → (d y : Column) (more : List (List ℕ)) → RowSoFar bytes at place old now i → i < length now
     → column_type y ≡ column_type (get_or now i d) → FieldUpTo bytes place f end
-    → Pushes f read.whole (get_or now i d) y → EndsRecord bytes end more read.next
+    → PushesField f read.whole (get_or now i d) y → EndsRecord bytes end more read.next
     → read.count ≡ i + 1 + length more → read.last ≡ i → (read.whole ≡ true → more ≡ [])
     → PushesFirst bytes at read old (set now i y)
 row_ends {f = f} {i = i} {old = old} {now = now} {read = read} d y more h lt k upto p line count
@@ -161,7 +161,7 @@ row_ends {f = f} {i = i} {old = old} {now = now} {read = read} d y more h lt k u
       judged = λ same. judged read.whole p last same;
     }
   where
-    judged : (s : Bool) → Pushes f s (get_or now i d) y → (s ≡ true → more ≡ [])
+    judged : (s : Bool) → PushesField f s (get_or now i d) y → (s ≡ true → more ≡ [])
         → read.count ≡ length old
         → Judged s read.last (h.fields ++ f ∷ more) old (set now i y)
     judged true p last same = rw (last refl) (front_all (h.fields ++ f ∷ []) old (set now i y)
@@ -202,7 +202,7 @@ no_items (x ∷ xs) h = absurd (omega arith)
 -- the record has another number of fields than there are columns
 pub first_lengths : {bytes : List ℕ} {at : ℕ} {read : RecordRead} {old new : List Column}
     → (number : ℕ) → PushesFirst bytes at read old new → read.count ≢ length old
-    → IsBadAt old bytes at number (record { row = number; field = fields_field read.count })
+    → IsBadRecordAt old bytes at number (record { row = number; field = fields_field read.count })
 first_lengths number h many = grind (arith, length-map, spelled_row-lengths, bad_field-lengths)
 
 -- the records in front of those that are left now are rows of the columns

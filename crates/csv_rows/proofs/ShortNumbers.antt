@@ -1,6 +1,6 @@
 -- Numbers of few digits.
 use Rattle.std.proofs.Common.{◌≡◌, ℕ, suc, ◌+◌, ◌-◌, ◌*◌, ◌^◌, ◌<◌, ◌≤◌, ◌&&◌, Bool, true, false, cond, List, length, drop, get_or, refl, sym, ap, ◌∙◌, arith, Option, None}
-use Rattle.csv_rows.proofs.Prelude.{is_digit, nat_lt, with_digits, with_digits-step}
+use Rattle.csv_rows.proofs.Imports.{is_digit, nat_lt, with_digits, with_digits-step}
 use Rattle.std.proofs.Math.Nat.{pow-suc, pow-le-pow_right}
 
 -- the number, if what was read of a field is good, with the digits behind it

@@ -44,11 +44,11 @@ OnWhole (Ok Whole) P = P
 OnWhole (Ok Pending) P = ⊤
 OnWhole (Err e) P = ⊤
 
-abbrev pub OnPending : Result Fetched FetchFault → Type 0 → Type 0
-OnPending (Ok More) P = ⊤
-OnPending (Ok Whole) P = ⊤
-OnPending (Ok Pending) P = P
-OnPending (Err e) P = ⊤
+abbrev pub OnPendingFetch : Result Fetched FetchFault → Type 0 → Type 0
+OnPendingFetch (Ok More) P = ⊤
+OnPendingFetch (Ok Whole) P = ⊤
+OnPendingFetch (Ok Pending) P = P
+OnPendingFetch (Err e) P = ⊤
 
 abbrev pub UnlessMore : Result Fetched FetchFault → Type 0 → Type 0
 UnlessMore (Ok More) P = ⊤
@@ -67,14 +67,14 @@ OnTooLong (TooLong n) P = P n
 OnTooLong Memory P = ⊤
 
 -- the held bytes begin these
-abbrev pub Begins : List ℕ → List ℕ → Type 0
-Begins held content = (length held ≤ length content) × (held ≡ take (length held) content)
+abbrev pub IsFrontOfFile : List ℕ → List ℕ → Type 0
+IsFrontOfFile held content = (length held ≤ length content) × (held ≡ take (length held) content)
 
 -- the reader stands behind the held bytes, which begin the file where it is told
 pub record HoldsFront (files : Option (List FileEntry)) (position : Option (List ℕ × ℕ))
     (path held : List ℕ) : Type 0 where
   pub at : position ≡ Some (path, length held)
-  pub front : IfSome files (λ all. IfSome (told_bytes all path) (Begins held))
+  pub front : IfSome files (λ all. IfSome (told_bytes all path) (IsFrontOfFile held))
 
 -- these are the bytes of the file, where it is told
 abbrev pub IsFile : Option (List FileEntry) → List ℕ → List ℕ → Type 0
@@ -87,5 +87,5 @@ pub record PassesAll (all : List FileEntry) (path : List ℕ) (limit : ℕ) : Ty
   pub long : limit < length bytes
 
 -- the same, where the file is told
-abbrev pub IsLongFile : Option (List FileEntry) → List ℕ → ℕ → Type 0
-IsLongFile files path limit = IfSome files (λ all. PassesAll all path limit)
+abbrev pub IsToldTooLong : Option (List FileEntry) → List ℕ → ℕ → Type 0
+IsToldTooLong files path limit = IfSome files (λ all. PassesAll all path limit)

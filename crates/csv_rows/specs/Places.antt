@@ -69,8 +69,8 @@ abbrev pub records_at : (left : ℕ) (bytes : List ℕ) (at : ℕ) → List (Lis
 records_at left bytes at = records_from default_config left st.StartRecord (drop at bytes)
 
 -- the bytes from a place up to another
-abbrev pub part : List ℕ → ℕ → ℕ → List ℕ
-part bytes at end = take (end - at) (drop at bytes)
+abbrev pub bytes_between : List ℕ → ℕ → ℕ → List ℕ
+bytes_between bytes at end = take (end - at) (drop at bytes)
 
 -- the field at a place has these bytes and ends there
 pub record FieldUpTo (bytes : List ℕ) (at : ℕ) (field : List ℕ) (end : ℕ) : Type 0 where
@@ -115,9 +115,9 @@ pub record AddsSpelled (field : List ℕ) (old new : Column) : Type 0 where
   pub added : values new ≡ values old ++ value ∷ []
 
 -- what a field did to a column: its value was added, or it spells none
-abbrev pub Pushes : List ℕ → Bool → Column → Column → Type 0
-Pushes field true old new = AddsSpelled field old new
-Pushes field false old new = (spelled_value (column_type old) field ≡ None) × (new ≡ old)
+abbrev pub PushesField : List ℕ → Bool → Column → Column → Type 0
+PushesField field true old new = AddsSpelled field old new
+PushesField field false old new = (spelled_value (column_type old) field ≡ None) × (new ≡ old)
 
 -- each column got its value of the row that the fields spell
 pub record AddsRecord (fields : List (List ℕ)) (old new : List Column) : Type 0 where
@@ -126,7 +126,7 @@ pub record AddsRecord (fields : List (List ℕ)) (old new : List Column) : Type 
   pub added : map values new ≡ append_each (map values old) (map (λ v. v ∷ []) row)
 
 -- what was added to columns can be taken back
-pub record TakesBack (old new : List Column) : Type 0 where
+pub record CanTakeBack (old new : List Column) : Type 0 where
   pub kinds : map column_type new ≡ map column_type old
   pub front : (n : ℕ) → AreLong n (map values old)
       → map (take n) (map values new) ≡ map values old
@@ -137,7 +137,7 @@ pub record ReadsFirst (bytes : List ℕ) (at : ℕ) (fields : List (List ℕ)) (
   pub starts : StartsLine bytes next
 
 -- the field of this column is the first that spells no value of its column
-pub record StopsAt (column : ℕ) (fields : List (List ℕ)) (columns : List Column) : Type 0 where
+pub record StopsAtField (column : ℕ) (fields : List (List ℕ)) (columns : List Column) : Type 0 where
   pub low : column < length columns
   pub unspelled : spelled_row (map column_type columns) fields ≡ None
   pub first : bad_column 1 (map column_type columns) fields ≡ column + 1
@@ -146,7 +146,7 @@ pub record StopsAt (column : ℕ) (fields : List (List ℕ)) (columns : List Col
 abbrev pub Judged : (whole : Bool) (last : ℕ) (fields : List (List ℕ)) (old new : List Column)
     → Type 0
 Judged true last fields old new = AddsRecord fields old new
-Judged false last fields old new = StopsAt last fields old
+Judged false last fields old new = StopsAtField last fields old
 
 -- the record at a place was read, and its fields were added to columns up to the first that spells
 -- no value
@@ -164,7 +164,7 @@ pub record AddsFirst (bytes : List ℕ) (at next : ℕ) (old new : List Column) 
   pub adds : AddsRecord fields old new
 
 -- the record at a place, which has this number, is no row of the columns, and the place says why
-pub record IsBadAt (columns : List Column) (bytes : List ℕ) (at number : ℕ) (place : BadPlace)
+pub record IsBadRecordAt (columns : List Column) (bytes : List ℕ) (at number : ℕ) (place : BadPlace)
     : Type 0 where
   pub fields : List (List ℕ)
   pub next : ℕ

@@ -2,7 +2,7 @@
 ghost use Rattle.std.specs.Prelude.{◌≡◌, [], ◌+◌, ◌<◌, ◌≤◌, true, false, length, map, drop, IfOk};
 ghost use Rattle.std.specs.List.{prefix_len};
 ghost use Rattle.std.specs.Simd.Lanes.{mask_l};
-ghost use Rattle.csv_rows.specs.Places.{starts_with, at_mark, no_mark, no_quote, part, FieldUpTo, EndsRecord, SkipsEnds};
+ghost use Rattle.csv_rows.specs.Places.{starts_with, at_mark, no_mark, no_quote, bytes_between, FieldUpTo, EndsRecord, SkipsEnds};
 
 use memchr::memchr;
 use std::alloc::AllocError;
@@ -53,7 +53,7 @@ fn mark_from(bytes: &[u8], at: usize) -> usize
 fn plain_end(bytes: &[u8], at: usize) -> usize
     requires within { at ≤ length bytes.now }
     requires plain { starts_with 34 (drop at bytes.now) ≡ false }
-    ensures { FieldUpTo bytes.now at (part bytes.now at result) result }
+    ensures { FieldUpTo bytes.now at (bytes_between bytes.now at result) result }
 {
     mark_from(bytes, at)
 }

@@ -1,7 +1,7 @@
 ghost use Rattle.std.specs.Prelude.{◌≡◌, ◌+◌, ◌<◌, ◌≤◌, ◌++◌, length, IsSome, IfOk, IfErr, OnOk, OnErr};
 ghost use Rattle.outside_io.specs.Counts.{CountIncreased};
 ghost use Rattle.outside_io.specs.Told.{StandsAtEnd};
-ghost use Rattle.csv_rows.specs.Fetching.{HoldsMore, OnMore, OnPending, OnRead, OnTooLong, OnWhole, PassesLimit, UnlessMore};
+ghost use Rattle.csv_rows.specs.Fetching.{HoldsMore, OnMore, OnPendingFetch, OnRead, OnTooLong, OnWhole, PassesLimit, UnlessMore};
 
 use chunk_data::Bytes;
 use outside_io::{Failed, FileReader, Got};
@@ -41,9 +41,9 @@ pub fn fetch<F: FileReader>(
         (F.position reader.new) held.old held.new limit) }
     ensures whole { OnWhole result (StandsAtEnd (F.files reader.old) (F.position reader.old)) }
     ensures stays_at_end { OnWhole result (F.position reader.new ≡ F.position reader.old) }
-    ensures pending { OnPending result
+    ensures pending { OnPendingFetch result
         (CountIncreased (F.pendings reader.old) (F.pendings reader.new)) }
-    ensures stays_pending { OnPending result (F.position reader.new ≡ F.position reader.old) }
+    ensures stays_pending { OnPendingFetch result (F.position reader.new ≡ F.position reader.old) }
     ensures read { IfErr result
         (λ e. OnRead e (CountIncreased (F.faults reader.old) (F.faults reader.new))) }
     ensures too_long { IfErr result (λ e. OnTooLong e (PassesLimit (F.files reader.old)

@@ -1,7 +1,7 @@
 // Records, added to columns field by field as they are read.
 ghost use Rattle.std.specs.Prelude.{◌≡◌, ◌+◌, ◌<◌, ◌≤◌, ◌^◌, true, length, map, drop, IfOk, IfErr, OnErr};
 ghost use Rattle.chunk_data.specs.Names.{column_type, values, AreLong};
-ghost use Rattle.csv_rows.specs.Places.{starts_line, at_mark, AddsFirst, HasMore, IsBadAt, OnBad, PushesFirst, TakesBack};
+ghost use Rattle.csv_rows.specs.Places.{starts_line, at_mark, AddsFirst, HasMore, IsBadRecordAt, OnBad, PushesFirst, CanTakeBack};
 
 use crate::field_ends::{byte_at, field_at, line_end};
 use crate::rows::{RowsFault, push_field};
@@ -50,7 +50,7 @@ fn push_fields(
     requires within { at ≤ length bytes.now }
     requires starts { starts_line (drop at bytes.now) ≡ true }
     ensures ok { IfOk result (λ read. PushesFirst bytes.now at read columns.old columns.new) }
-    ensures back { TakesBack columns.old columns.new }
+    ensures back { CanTakeBack columns.old columns.new }
 {
     let mut place = at;
     for i in 0..columns.len() {
@@ -103,7 +103,7 @@ pub(crate) fn push_first(
     requires few { length columns.old < 2 ^ 32 }
     ensures kinds { map column_type columns.new ≡ map column_type columns.old }
     ensures ok { IfOk result (λ next. AddsFirst bytes.now at next columns.old columns.new) }
-    ensures bad { IfErr result (λ e. OnBad e (IsBadAt columns.old bytes.now at row)) }
+    ensures bad { IfErr result (λ e. OnBad e (IsBadRecordAt columns.old bytes.now at row)) }
     ensures err { OnErr result (map values columns.new ≡ map values columns.old) }
 {
     let width = columns.len();

@@ -1,7 +1,7 @@
 // What the fields of a part add to columns.
 ghost use Rattle.std.specs.Prelude.{◌≡◌, IfOk, OnErr};
 ghost use Rattle.chunk_data.specs.Names.{column_type, values};
-ghost use Rattle.csv_rows.specs.Places.{Pushes};
+ghost use Rattle.csv_rows.specs.Places.{PushesField};
 
 use crate::short_numbers::{spelled_int, spelled_uint};
 use chunk_data::{Column, Memory, PlainType};
@@ -20,7 +20,7 @@ pub enum RowsFault {
 #[inline(always)]
 pub(crate) fn push_field(column: &mut Column, field: &[u8]) -> Result<bool, Memory>
     ensures kind { column_type column.new ≡ column_type column.old }
-    ensures ok { IfOk result (λ spelled. Pushes field.now spelled column.old column.new) }
+    ensures ok { IfOk result (λ spelled. PushesField field.now spelled column.old column.new) }
     ensures err { OnErr result (values column.new ≡ values column.old) }
 {
     match column.kind().plain() {

@@ -8,7 +8,7 @@ use Rattle.outside_io.specs.declared.entries.FileEntry.{FileEntry}
 use Rattle.outside_io.specs.declared.entries.Got.{Got}
 use Rattle.outside_io.specs.declared.entries.Got.TheVariants.{Bytes, End, Pending}
 use Rattle.outside_io.specs.Counts.{one_more}
-use Rattle.outside_io.specs.Told.{told_content, place_of}
+use Rattle.outside_io.specs.Told.{told_content, reader_place}
 use Rattle.outside_io.specs.Scripts.{next_fake}
 
 -- files in memory, where the reader stands, its counts, its script, and how many of its calls were
@@ -22,8 +22,8 @@ pub record FilesState : Type 0 where
   pub calls : ℕ
 
 -- the state with one more call counted
-abbrev pub counted : FilesState → FilesState
-counted s = record s { calls = one_more s.calls }
+abbrev pub one_call_more : FilesState → FilesState
+one_call_more s = record s { calls = one_more s.calls }
 
 -- the fake that the next call meets
 abbrev pub fake_of : FilesState → Option FakeKind
@@ -31,7 +31,8 @@ fake_of s = next_fake s.script s.calls
 
 -- how many bytes are left in the file from where the reader stands
 abbrev pub bytes_left : FilesState → ℕ
-bytes_left s = length (unwrap_or (told_content (Some s.files) s.position) []) - place_of s.position
+bytes_left s = length (unwrap_or (told_content (Some s.files) s.position) []) - reader_place
+    s.position
 
 -- a block, where so many bytes are left
 abbrev pub block_got : ℕ → ℕ → Got

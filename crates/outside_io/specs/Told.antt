@@ -19,9 +19,9 @@ told_content (Some files) None = None
 told_content (Some files) (Some stand) = told_bytes files stand.0
 
 -- the place at which the reader stands
-abbrev pub place_of : Option (List ℕ × ℕ) → ℕ
-place_of None = 0
-place_of (Some stand) = stand.1
+abbrev pub reader_place : Option (List ℕ × ℕ) → ℕ
+reader_place None = 0
+reader_place (Some stand) = stand.1
 
 -- the same file, n bytes further on
 abbrev pub moved_by : ℕ → Option (List ℕ × ℕ) → Option (List ℕ × ℕ)
@@ -32,10 +32,10 @@ moved_by n (Some stand) = Some (stand.0, stand.1 + n)
 abbrev pub GivesNext : Option (List FileEntry) → Option (List ℕ × ℕ) → ℕ → List ℕ → Type 0
 GivesNext files stand n buffer =
     IfSome (told_content files stand)
-    (λ content. (place_of stand + n ≤ length content)
-    × (take n buffer ≡ take n (drop (place_of stand) content)))
+    (λ content. (reader_place stand + n ≤ length content)
+    × (take n buffer ≡ take n (drop (reader_place stand) content)))
 
 -- the reader stands at the end of the file, where it is told
 abbrev pub StandsAtEnd : Option (List FileEntry) → Option (List ℕ × ℕ) → Type 0
 StandsAtEnd files stand =
-    IfSome (told_content files stand) (λ content. place_of stand ≡ length content)
+    IfSome (told_content files stand) (λ content. reader_place stand ≡ length content)

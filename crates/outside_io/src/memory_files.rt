@@ -1,5 +1,5 @@
 ghost use Rattle.std.specs.Prelude.{◌≡◌, ◌<◌, ◌≤◌, ◌-◌, min, length, take, drop, Some, None, IfSome, IfNone, IsSome, IsNone, IsOk, OnOk, OnErr, ◌↔◌};
-ghost use Rattle.outside_io.specs.MemStates.{counted, fake_of, bytes_left, read_answer};
+ghost use Rattle.outside_io.specs.MemStates.{one_call_more, fake_of, bytes_left, read_answer};
 ghost use Rattle.outside_io.specs.Told.{told_bytes, moved_by, GivesNext, StandsAtEnd};
 ghost use Rattle.outside_io.specs.Counts.{one_more};
 ghost use Rattle.outside_io.specs.Scripts.{IsRising};
@@ -112,10 +112,11 @@ impl FileReader for MemFiles {
         ensures exact { IsOk result ↔
             (IsNone (fake_of self.old) × IsSome (told_bytes self.old.files path.now)) }
         ensures opened { OnOk result
-            (self.new ≡ record (counted self.old) { position = Some (path.now, 0) }) }
+            (self.new ≡ record (one_call_more self.old) { position = Some (path.now, 0) }) }
         ensures fault { OnErr result
             (self.new
-            ≡ record (counted self.old) { position = None; faults = one_more self.old.faults }) }
+            ≡ record (one_call_more self.old)
+            { position = None; faults = one_more self.old.faults }) }
         ensures faults_kept { self.old.faults ≤ self.new.faults }
     {
         self.standing = None;
@@ -142,13 +143,13 @@ impl FileReader for MemFiles {
             (λ n. GivesNext (Some self.old.files) self.old.position n buf.new) }
         ensures moved { OnBytes result
             (λ n. self.new
-            ≡ record (counted self.old) { position = moved_by n self.old.position }) }
+            ≡ record (one_call_more self.old) { position = moved_by n self.old.position }) }
         ensures end { OnEnd result (StandsAtEnd (Some self.old.files) self.old.position) }
-        ensures at_end { OnEnd result (self.new ≡ counted self.old) }
+        ensures at_end { OnEnd result (self.new ≡ one_call_more self.old) }
         ensures pending { OnPending result
-            (self.new ≡ record (counted self.old) { pendings = one_more self.old.pendings }) }
+            (self.new ≡ record (one_call_more self.old) { pendings = one_more self.old.pendings }) }
         ensures fault { OnErr result
-            (self.new ≡ record (counted self.old) { faults = one_more self.old.faults }) }
+            (self.new ≡ record (one_call_more self.old) { faults = one_more self.old.faults }) }
         ensures stays_open { IsSome self.new.position }
         ensures faults_kept { self.old.faults ≤ self.new.faults }
         ensures pendings_kept { self.old.pendings ≤ self.new.pendings }

@@ -1,5 +1,5 @@
 use Rattle.std.proofs.Common.{sym, ◌∙◌, arith}
-use Rattle.csv_rows.proofs.Prelude.{with_digits-end, with_digits-numeral}
+use Rattle.csv_rows.proofs.Imports.{with_digits-end, with_digits-numeral}
 use Rattle.csv_rows.proofs.ShortNumbers.{read_more}
 use Rattle.csv_rows.proofs.short_numbers.spelled_uint.Goals as goal
 

@@ -1,5 +1,5 @@
 use Rattle.std.proofs.Common.{◌≡◌, ℕ, ◌==◌, ◌||◌, Bool, true, false, cond, List, [], ◌∷◌, ◌++◌, flat_map, refl, ap, ◌∙◌, sym}
-use Rattle.csv_rows.proofs.Prelude.{doubled, list_any}
+use Rattle.csv_rows.proofs.Imports.{doubled, list_any}
 use Rattle.csv_rows.proofs.text.append_doubled.Goals as goal
 
 -- a text without a quote stays as it is

@@ -1,5 +1,5 @@
 use Rattle.std.proofs.Common.{◌≡◌, ◌<◌, ◌++◌, ◌∷◌, [], length, ap, sym, ◌∙◌, arith, append_assoc}
-use Rattle.csv_rows.proofs.Prelude.{get_or-map, row_at, row_front, separator, value_at, value_text, values}
+use Rattle.csv_rows.proofs.Imports.{get_or-map, row_at, row_front, separator, value_at, value_text, values}
 use Rattle.query_model.proofs.TextLaws.{row_front-more, row_front-whole}
 use Rattle.csv_rows.proofs.text.append_row.Goals as goal
 

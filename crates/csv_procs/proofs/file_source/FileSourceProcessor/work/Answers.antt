@@ -1,4 +1,4 @@
-use Rattle.csv_procs.proofs.Imports.{fails, part, works}
+use Rattle.csv_procs.proofs.Imports.{fails, shell_state, works}
 use Rattle.csv_procs.proofs.SourceLaws.{fault-told, reads, tied-now}
 use Rattle.csv_procs.proofs.file_source.FileSourceProcessor.work.Goals as goal
 
@@ -11,8 +11,8 @@ returns-clause-ok g c =
     let m = c.work.new.self in
     rw (← c.self.view_is, c.in-Some.is)
     (works K.kind_is (reads (R.files r) (R.faults r) (R.pendings r)) c.self.inside.pulled
-    (part (K.state l.kernel) l.held l.notes) (part (K.state m.kernel) m.held m.notes) c.work.result
-    (rw (← c.self.view_is, c.in-Some.is) at c.requires.running) c.work.ensures.ok)
+    (shell_state (K.state l.kernel) l.held l.notes) (shell_state (K.state m.kernel) m.held m.notes)
+    c.work.result (rw (← c.self.view_is, c.in-Some.is) at c.requires.running) c.work.ensures.ok)
 
 pub returns-clause-fault : goal.returns-clause-fault
 returns-clause-fault g c =
@@ -26,8 +26,9 @@ returns-clause-fault g c =
     let running = rw (← c.self.view_is, c.in-Some.is) at c.requires.running in
     rw (← c.self.view_is, c.in-Some.is) (fails K.kind_is
     (reads (R.files r) (R.faults r) (R.pendings r)) c.self.inside.pulled
-    (part (K.state l.kernel) l.held l.notes) (part (K.state m.kernel) m.held m.notes) c.work.result
-    (g.met.K.Kernel.of_kind l.kernel).0 running c.work.ensures.fault c.work.ensures.fails
+    (shell_state (K.state l.kernel) l.held l.notes) (shell_state (K.state m.kernel) m.held m.notes)
+    c.work.result (g.met.K.Kernel.of_kind l.kernel).0 running c.work.ensures.fault
+    c.work.ensures.fails
     (rw shows (fault-told (R.files r) (R.position r) (R.faults r) (R.pendings r) K.kind_is
     c.self.inside.pulled F.lists (F.part_of l.kernel) (F.file_of l.kernel) l.held l.notes
     (tied-now (R.files r) (R.position r) F.lists (F.part_of l.kernel) (F.file_of l.kernel) l.held

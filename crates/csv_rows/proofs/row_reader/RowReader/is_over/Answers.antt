@@ -1,5 +1,5 @@
 use Rattle.std.proofs.Common.{ap, length, ◌∙◌}
-use Rattle.csv_rows.proofs.Prelude.{at_end}
+use Rattle.csv_rows.proofs.Imports.{at_end}
 use Rattle.csv_rows.proofs.PartPlaces.{over_is, over_none}
 use Rattle.csv_rows.proofs.row_reader.RowReader.is_over.Goals as goal
 

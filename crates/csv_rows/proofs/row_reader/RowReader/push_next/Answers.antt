@@ -1,5 +1,5 @@
 use Rattle.std.proofs.Common.{◌≡◌, ◌+◌, ap, ◌∙◌, arith}
-use Rattle.csv_rows.proofs.Prelude.{at_end}
+use Rattle.csv_rows.proofs.Imports.{at_end}
 use Rattle.csv_rows.proofs.PartPlaces.{line_there, some_left, row_here, bad_here}
 use Rattle.csv_rows.proofs.row_reader.RowReader.push_next.Goals as goal
 

@@ -1,10 +1,10 @@
--- The names from outside that several files of proofs use, in one place.
+-- The names from outside that this crate's proofs use, in one place.
 pub use Rattle.chunk_data.proofs.Imports.{AreLong, drop-drop, drop-take, get_or-map, column_type, length-drop, map-set, row_at, rows_of, set-get_or, take-take, take_at, values}
 pub use Rattle.chunk_data.proofs.Laws.{AreLong_push, length-FitsTypes, length-rows_of, rows_of_push}
 pub use Rattle.chunk_data.specs.declared.typed_column.Column.{Column}
 pub use Rattle.csv.specs.Machine.{Read, ends_at_end, is_end, state_code, step}
 pub use Rattle.csv.specs.Reading.{default_config, is_bom, records, records_next}
-pub use Rattle.csv_rows.specs.Places.{AddsFirst, AddsRecord, AddsSpelled, BeginsField, BeginsFields, EndsRecord, FieldUpTo, FirstRecord, HasMore, IsBadAt, Judged, OnBad, Pushes, PushesFirst, ReadsFirst, SkipsEnds, StartsLine, StartsPart, StopsAt, TakesBack, at_mark, first_or, is_line_end, is_mark, no_mark, no_quote, part, records_at, starts_line, starts_with}
+pub use Rattle.csv_rows.specs.Places.{AddsFirst, AddsRecord, AddsSpelled, BeginsField, BeginsFields, CanTakeBack, EndsRecord, FieldUpTo, FirstRecord, HasMore, IsBadRecordAt, Judged, OnBad, PushesField, PushesFirst, ReadsFirst, SkipsEnds, StartsLine, StartsPart, StopsAtField, at_mark, bytes_between, first_or, is_line_end, is_mark, no_mark, no_quote, records_at, starts_line, starts_with}
 pub use Rattle.csv_rows.specs.RowsLeft.{ReadsFront, RowsLeft, TakesRow, at_end}
 pub use Rattle.query_model.proofs.Imports.{Table, append-nil, both_spelled, doubled, drop_all, drop_more, is_digit, length-append, length-map, nat_lt, numeral_below, row_front, rows_text, separator, spelled_value, take_all, value_at, value_text, with_digits}
 pub use Rattle.query_model.proofs.NumeralLaws.{with_digits-end, with_digits-numeral, with_digits-step}
