@@ -1,8 +1,8 @@
 -- The names from outside that this crate's proofs use, in one place.
 pub use Rattle.command_line.specs.Pieces.{both_read, pieces_of}
-pub use Rattle.command_line.specs.Tables.{are_distinct, column_of, column_with, columns_of, few_named, few_of, is_path, is_path_byte, parts_of, path_of, table_if, table_of, table_with, tables_of, type_named}
-pub use Rattle.command_line.specs.Words.{GivesNumber, GivesTables, IsWithinLimits, Means, command_in, command_with, number_given, number_in, tables_given}
-pub use Rattle.command_line.specs.Written.{AreFew, AreParts, Declares, IsColumn, IsPath, IsTable, column_text, parts_text, table_text, type_text}
+pub use Rattle.command_line.specs.Tables.{are_distinct, column_of, column_with, columns_of, few_named, few_of, is_path_byte, is_plain_path, parts_spelled, path_of, table_if, table_of, table_with, tables_of, type_named}
+pub use Rattle.command_line.specs.Words.{GivesTables, IsWithinLimits, OptionGives, WordsMean, command_in, command_with, number_given, number_in, tables_given}
+pub use Rattle.command_line.specs.Written.{AreFew, AreParts, Declares, IsColumnDecl, IsPath, IsTableDecl, column_text, parts_text, table_text, type_text}
 pub use Rattle.command_line.specs.declared.words.Command.{Command}
 pub use Rattle.command_options.specs.declared.options.OptionTexts.{OptionTexts}
 pub use Rattle.query_model.proofs.Imports.{ColumnType, append-nil, drop_all, length-append, length-map, numeral_below, option_map, take_all}

@@ -1,12 +1,12 @@
 -- The command that words mean, as a function and as a relation.
-use Rattle.command_line.proofs.Imports.{Bool, Command, GivesNumber, GivesTables, IsWithinLimits, List, Means, None, Option, OptionTexts, Some, TableDecl, [], ap, ap₂, arith, command_in, command_of, command_with, false, if◌then◌else◌, length, nat_le, number_given, number_in, numeral_below, option_and_then, options_of, refl, subst, sym, tables_given, true, ℕ, ◌&&◌, ◌^◌, ◌∙◌, ◌≡◌, ◌≤◌, none-some, same_Some, cond_some, and_parts}
+use Rattle.command_line.proofs.Imports.{Bool, Command, OptionGives, GivesTables, IsWithinLimits, List, WordsMean, None, Option, OptionTexts, Some, TableDecl, [], ap, ap₂, arith, command_in, command_of, command_with, false, if◌then◌else◌, length, nat_le, number_given, number_in, numeral_below, option_and_then, options_of, refl, subst, sym, tables_given, true, ℕ, ◌&&◌, ◌^◌, ◌∙◌, ◌≡◌, ◌≤◌, none-some, same_Some, cond_some, and_parts}
 use Rattle.command_line.proofs.Readings.{at_most, at_most_test}
 use Rattle.command_line.proofs.WrittenLaws.{declared_read, tables_declared}
 
 -- ---- numbers
 
 number_read : (default most : ℕ) (text : Option (List ℕ)) (n : ℕ)
-    → number_given default most text ≡ Some n → GivesNumber default most text n
+    → number_given default most text ≡ Some n → OptionGives default most text n
 number_read default most None n e = sym (same_Some default n e)
 number_read default most (Some text) n e = go (nat_le (length text) 5) (numeral_below (2 ^ 64) text)
     refl refl e
@@ -14,7 +14,7 @@ number_read default most (Some text) n e = go (nat_le (length text) 5) (numeral_
     go : (short : Bool) (o : Option ℕ) → nat_le (length text) 5 ≡ short
         → numeral_below (2 ^ 64) text ≡ o
         → (if short then option_and_then (number_in most) o else None) ≡ Some n
-        → GivesNumber default most (Some text) n
+        → OptionGives default most (Some text) n
     go false o short spelled e = absurd (none-some n e)
     go true None short spelled e = absurd (none-some n e)
     go true (Some m) short spelled e =
@@ -28,7 +28,7 @@ number_read default most (Some text) n e = go (nat_le (length text) 5) (numeral_
           few = at_most n most within.1;
         }
 
-number_whole : (default most : ℕ) (text : Option (List ℕ)) (n : ℕ) → GivesNumber default most text n
+number_whole : (default most : ℕ) (text : Option (List ℕ)) (n : ℕ) → OptionGives default most text n
     → number_given default most text ≡ Some n
 number_whole default most None n is = ap Some (sym is)
 number_whole default most (Some text) n h =
@@ -53,7 +53,7 @@ given_whole (Some text) tables d = declared_read text tables d
 
 -- the command that the function gives is the one that the words mean
 pub command_means : (words : List (List ℕ)) (c : Command) → command_of words ≡ Some c
-    → Means words c
+    → WordsMean words c
 unfolding command_of
 command_means words c e = texts_read (options_of words) refl e
   where
@@ -61,7 +61,7 @@ command_means words c e = texts_read (options_of words) refl e
         → options_of words ≡ Some texts
         → number_given 4 16 texts.threads ≡ threads → number_given 8192 65536 texts.chunk ≡ rows
         → tables_given texts.tables ≡ tables
-        → command_with texts threads rows tables ≡ Some c → Means words c
+        → command_with texts threads rows tables ≡ Some c → WordsMean words c
     parts_read texts None rows tables given has_threads has_rows has_tables e =
         absurd (none-some c e)
     parts_read texts (Some threads) None tables given has_threads has_rows has_tables e =
@@ -76,7 +76,7 @@ command_means words c e = texts_read (options_of words) refl e
           chunk_rows = rows;
           header = texts.header;
         } in
-        subst (Means words) (same_Some made c e) (record {
+        subst (WordsMean words) (same_Some made c e) (record {
           texts = texts;
           given = given;
           query = refl;
@@ -87,14 +87,14 @@ command_means words c e = texts_read (options_of words) refl e
         })
 
     texts_read : (o : Option OptionTexts) → options_of words ≡ o
-        → option_and_then command_in o ≡ Some c → Means words c
+        → option_and_then command_in o ≡ Some c → WordsMean words c
     texts_read None given e = absurd (none-some c e)
     texts_read (Some texts) given e =
         parts_read texts (number_given 4 16 texts.threads) (number_given 8192 65536 texts.chunk)
         (tables_given texts.tables) given refl refl refl e
 
 -- and the other way round
-pub means_command : (words : List (List ℕ)) (c : Command) → Means words c
+pub means_command : (words : List (List ℕ)) (c : Command) → WordsMean words c
     → command_of words ≡ Some c
 unfolding command_of
 means_command words c m =
@@ -113,19 +113,19 @@ means_command words c m =
     })) (sym m.query) (sym m.header)
 
 -- words of which the function gives none mean nothing
-pub means_none : (words : List (List ℕ)) → command_of words ≡ None → (c : Command) → Means words c
-    → ⊥
+pub means_none : (words : List (List ℕ)) → command_of words ≡ None → (c : Command)
+    → WordsMean words c → ⊥
 means_none words none c m = none-some c (sym none ∙ means_command words c m)
 
 -- ---- what every command is
 
 number_within : (default most : ℕ) (text : Option (List ℕ)) (n : ℕ) → 1 ≤ default → default ≤ most
-    → GivesNumber default most text n → (1 ≤ n) × (n ≤ most)
+    → OptionGives default most text n → (1 ≤ n) × (n ≤ most)
 number_within default most None n some few is = (omega (arith, some, is), omega (arith, few, is))
 number_within default most (Some text) n some few h = (h.some, h.few)
 
 -- a command that words mean is within the limits
-pub limits_kept : (words : List (List ℕ)) (c : Command) → Means words c → IsWithinLimits c
+pub limits_kept : (words : List (List ℕ)) (c : Command) → WordsMean words c → IsWithinLimits c
 limits_kept words c m =
     let threads = number_within 4 16 m.texts.threads c.threads (omega arith) (omega arith) m.threads
     in

@@ -8,10 +8,10 @@ pub record IsMapped {X Y : Type 0} (f : X → Y) (o : Option X) (y : Y) : Type 0
   pub some : o ≡ Some of
   pub is : f of ≡ y
 
-pub mapped : {X Y : Type 0} (f : X → Y) (o : Option X) (y : Y) → option_map f o ≡ Some y
+pub mapped_is_some : {X Y : Type 0} (f : X → Y) (o : Option X) (y : Y) → option_map f o ≡ Some y
     → IsMapped f o y
-mapped f None y e = absurd (none-some y e)
-mapped f (Some x) y e = record { of = x; some = refl; is = same_Some (f x) y e }
+mapped_is_some f None y e = absurd (none-some y e)
+mapped_is_some f (Some x) y e = record { of = x; some = refl; is = same_Some (f x) y e }
 
 pub at_most : (n m : ℕ) → nat_le n m ≡ true → n ≤ m
 at_most n m e = grind (arith, nat_tests)

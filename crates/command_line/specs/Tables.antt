@@ -51,17 +51,17 @@ abbrev pub is_path_byte : ℕ → Bool
 is_path_byte b = not ((b == 43) || (b == 58) || (b == 59))
 
 -- one or more such bytes, of which the first isn't `@`
-abbrev pub is_path : List ℕ → Bool
-is_path [] = false
-is_path (b ∷ bytes) = not (b == 64) && list_all is_path_byte (b ∷ bytes)
+abbrev pub is_plain_path : List ℕ → Bool
+is_plain_path [] = false
+is_plain_path (b ∷ bytes) = not (b == 64) && list_all is_path_byte (b ∷ bytes)
 
 abbrev pub path_of : List ℕ → Option (List ℕ)
-path_of text = if is_path text then Some text else None
+path_of text = if is_plain_path text then Some text else None
 
 -- `@` and the path of a list file, or paths that `+` separates
-abbrev pub parts_of : List ℕ → Option PartsDecl
-parts_of [] = None
-parts_of (b ∷ bytes) =
+abbrev pub parts_spelled : List ℕ → Option PartsDecl
+parts_spelled [] = None
+parts_spelled (b ∷ bytes) =
     if b == 64 then option_map ListFile (path_of bytes) else option_map Paths
     (pieces_of path_of 43 (b ∷ bytes))
 
@@ -78,7 +78,8 @@ table_with name parts columns = if is_name name then table_if name parts columns
 abbrev pub table_of : List ℕ → Option TableDecl
 table_of text =
     let behind = after_first (λ b. b == 61) text in
-    table_with (before_first (λ b. b == 61) text) (parts_of (before_first (λ b. b == 58) behind))
+    table_with (before_first (λ b. b == 61) text)
+    (parts_spelled (before_first (λ b. b == 58) behind))
     (columns_of (after_first (λ b. b == 58) behind))
 
 -- one to eight declarations that `;` separates

@@ -58,22 +58,22 @@ pub record SpellsNumber (most : ℕ) (text : List ℕ) (n : ℕ) : Type 0 where
   pub some : 1 ≤ n
   pub few : n ≤ most
 
-abbrev pub GivesNumber : (default most : ℕ) → Option (List ℕ) → ℕ → Type 0
-GivesNumber default most None n = n ≡ default
-GivesNumber default most (Some text) n = SpellsNumber most text n
+abbrev pub OptionGives : (default most : ℕ) → Option (List ℕ) → ℕ → Type 0
+OptionGives default most None n = n ≡ default
+OptionGives default most (Some text) n = SpellsNumber most text n
 
 abbrev pub GivesTables : Option (List ℕ) → List TableDecl → Type 0
 GivesTables None tables = tables ≡ []
 GivesTables (Some text) tables = Declares text tables
 
 -- the words give the texts of the options, and the command is what these spell
-pub record Means (words : List (List ℕ)) (c : Command) : Type 0 where
+pub record WordsMean (words : List (List ℕ)) (c : Command) : Type 0 where
   pub texts : OptionTexts
   pub given : options_of words ≡ Some texts
   pub query : c.query ≡ texts.query
   pub tables : GivesTables texts.tables c.tables
-  pub threads : GivesNumber 4 16 texts.threads c.threads
-  pub chunk_rows : GivesNumber 8192 65536 texts.chunk c.chunk_rows
+  pub threads : OptionGives 4 16 texts.threads c.threads
+  pub chunk_rows : OptionGives 8192 65536 texts.chunk c.chunk_rows
   pub header : c.header ≡ texts.header
 
 -- ---- what every command is

@@ -1,5 +1,5 @@
 -- How tables are written on the command line.
-use Rattle.command_line.specs.Tables.{are_distinct, is_path}
+use Rattle.command_line.specs.Tables.{are_distinct, is_plain_path}
 use Rattle.query_model.specs.Prelude.{All, ColumnType, join_with_byte}
 use Rattle.query_model.specs.declared.query.ColumnDecl.{ColumnDecl}
 use Rattle.query_model.specs.declared.query.PartsDecl.{PartsDecl}
@@ -45,22 +45,22 @@ pub record AreFew {X : Type 0} (Good : X → Type 0) (name : X → List ℕ) (mo
   pub few : length xs ≤ most
   pub distinct : are_distinct (map name xs) ≡ true
 
-abbrev pub IsColumn : ColumnDecl → Type 0
-IsColumn c = is_name c.name ≡ true
+abbrev pub IsColumnDecl : ColumnDecl → Type 0
+IsColumnDecl c = is_name c.name ≡ true
 
 abbrev pub IsPath : List ℕ → Type 0
-IsPath path = is_path path ≡ true
+IsPath path = is_plain_path path ≡ true
 
 abbrev pub AreParts : PartsDecl → Type 0
 AreParts (Paths paths) = All IsPath paths × (1 ≤ length paths)
 AreParts (ListFile path) = IsPath path
 
-pub record IsTable (t : TableDecl) : Type 0 where
+pub record IsTableDecl (t : TableDecl) : Type 0 where
   pub name : is_name t.schema.name ≡ true
   pub parts : AreParts t.parts
-  pub columns : AreFew IsColumn (λ c. c.name) 64 t.schema.columns
+  pub columns : AreFew IsColumnDecl (λ c. c.name) 64 t.schema.columns
 
 -- one to eight tables whose names differ, and the text is what they are written as
 pub record Declares (text : List ℕ) (tables : List TableDecl) : Type 0 where
-  pub are : AreFew IsTable (λ t. t.schema.name) 8 tables
+  pub are : AreFew IsTableDecl (λ t. t.schema.name) 8 tables
   pub written : tables_text tables ≡ text

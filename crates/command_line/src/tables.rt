@@ -2,7 +2,7 @@ ghost use Rattle.std.specs.Prelude.{◌≡◌, option_map, IfOk, Some};
 ghost use Rattle.std.specs.List.{list_all};
 ghost use Rattle.query_model.specs.declared.query.PartsDecl.TheVariants.{Paths, ListFile};
 ghost use Rattle.command_line.specs.Pieces.{pieces_of};
-ghost use Rattle.command_line.specs.Tables.{type_named as type_meant, column_of, few_named, few_of, columns_of, is_path_byte as path_byte_test, is_path as path_test, path_of, parts_of, table_if, table_with, table_of, tables_of};
+ghost use Rattle.command_line.specs.Tables.{type_named as type_meant, column_of, few_named, few_of, columns_of, is_path_byte as path_byte_test, is_plain_path as path_test, path_of, parts_spelled, table_if, table_with, table_of, tables_of};
 
 use crate::names::{Named, have_distinct_names};
 use crate::pieces::{Piece, read_pieces, text_after, text_before};
@@ -92,7 +92,7 @@ fn read_table(
     columns: &[u8],
 ) -> Result<Option<TableDecl>, Memory>
     ensures { IfOk result (λ o.
-        o ≡ table_with name.now (parts_of parts.now) (columns_of columns.now)) }
+        o ≡ table_with name.now (parts_spelled parts.now) (columns_of columns.now)) }
 {
     if !is_name(name) {
         return Ok(None);
@@ -123,7 +123,7 @@ fn table_over(
 
 /// Paths that plus signs separate, or `@` and the path of a list file.
 fn read_parts(alloc: Global, text: &[u8]) -> Result<Option<PartsDecl>, Memory>
-    ensures { IfOk result (λ o. o ≡ parts_of text.now) }
+    ensures { IfOk result (λ o. o ≡ parts_spelled text.now) }
 {
     match text {
         [] => Ok(None),

@@ -1,6 +1,6 @@
 ghost use Rattle.std.specs.Prelude.{◌≡◌, map, IfOk, Err, Some, None};
 ghost use Rattle.std.specs.String.{string_bytes};
-ghost use Rattle.command_line.specs.Words.{number_in as number_test, number_up_to, number_given, tables_given, command_in, command_of, Means, IsWithinLimits};
+ghost use Rattle.command_line.specs.Words.{number_in as number_test, number_up_to, number_given, tables_given, command_in, command_of, WordsMean, IsWithinLimits};
 ghost use Rattle.command_line.specs.declared.words.Command.{Command};
 ghost use Rattle.command_line.specs.declared.words.WordsRefusal.{WordsRefusal};
 
@@ -54,9 +54,9 @@ pub fn read_words(alloc: Global, words: &[String]) -> Result<Command, WordsRefus
 
     // The same by the parts of the words: each text has its form, and tables are what they are
     // written as.
-    ensures means { IfOk result (Means (map string_bytes words.now)) }
+    ensures means { IfOk result (WordsMean (map string_bytes words.now)) }
     ensures meaningless { (result ≡ Err WordsRefusal.Usage)
-        → (c : Command) → Means (map string_bytes words.now) c → ⊥ }
+        → (c : Command) → WordsMean (map string_bytes words.now) c → ⊥ }
     ensures within { IfOk result IsWithinLimits }
 {
     match command_meant(alloc, words) {

@@ -2,7 +2,7 @@
 -- rest` says that the tokens ts begin with a spelling of the term e, and that rest is what follows
 -- it.
 use Rattle.std.specs.Prelude.{◌≡◌, ℕ, true, false, List, [], ◌∷◌, Option, Some, None, codes}
-use Rattle.sql_grammar.specs.QueryTypes.{AggOp, CallTree, ColumnRef, CompareOp, CondForm, Condition, Expression, ItemTree, ItemWhat, Join, NamePair, OrderKey, Query, QueryTree, Selection, Side, Span, TableRef, arith, both, call, call_item, column, compare, either, listed, negated, number, plain, plain_item, query_tree, star, text}
+use Rattle.sql_grammar.specs.QueryTypes.{AggOp, CallTree, ColumnRef, CompareOp, CondForm, Condition, Expression, ItemTree, ItemWhat, Join, NamePair, OrderKey, Query, QueryOperand, QueryTree, Selection, Span, TableRef, arith, both, call, call_item, column, compare, either, listed, negated, number, plain, plain_item, query_tree, star, text}
 use Rattle.query_model.specs.declared.query.ArithOp.TheVariants as op
 use Rattle.query_model.specs.declared.query.AggOp.TheVariants as agg
 use Rattle.query_model.specs.declared.query.CompareOp.TheVariants as order
@@ -68,12 +68,12 @@ pub data IsAgg : CallTree → Tokens → Tokens → Type 0 where
       → IsAgg (record { op = op; arg = Some e }) (token.Name w ∷ token.Sign sign.Open ∷ ts) rest
 
 -- operand = expr | string
-pub data IsOperand : Side → Tokens → Tokens → Type 0 where
+pub data IsOperand : QueryOperand → Tokens → Tokens → Type 0 where
   an_expr : {e : Expression} {ts rest : Tokens} → IsExpr e ts rest → IsOperand (plain e) ts rest
   a_string : {t : List ℕ} {rest : Tokens} → IsOperand (text t) (token.Text t ∷ rest) rest
 
 -- operand of HAVING = column | agg | number | "-" number | string
-pub data IsGroupOperand : Side → Tokens → Tokens → Type 0 where
+pub data IsGroupOperand : QueryOperand → Tokens → Tokens → Type 0 where
   a_key : {c : ColumnRef} {ts rest : Tokens} → IsColumn c ts rest
       → IsGroupOperand (plain (column c)) ts rest
   a_call : {c : CallTree} {ts rest : Tokens} → IsAgg c ts rest → IsGroupOperand (call c) ts rest
@@ -139,25 +139,25 @@ pub data IsWhat : ItemWhat → Tokens → Tokens → Type 0 where
   an_agg : {c : CallTree} {ts rest : Tokens} → IsAgg c ts rest → IsWhat (call_item c) ts rest
 
 -- item = (expr | agg) [AS name]
-pub data IsItem : ItemTree → Tokens → Tokens → Type 0 where
+pub data IsSelectItem : ItemTree → Tokens → Tokens → Type 0 where
   unnamed : {w : ItemWhat} {ts rest : Tokens} → IsWhat w ts rest
-      → IsItem (record { what = w; alias = None }) ts rest
+      → IsSelectItem (record { what = w; alias = None }) ts rest
   named : {w : ItemWhat} {name : List ℕ} {ts rest : Tokens}
       → IsWhat w ts (token.Keyword keyword.As ∷ token.Name name ∷ rest)
-      → IsItem (record { what = w; alias = Some name }) ts rest
+      → IsSelectItem (record { what = w; alias = Some name }) ts rest
 
 -- items = "*" | item {"," item}
 pub data IsSelection : Selection → Tokens → Tokens → Type 0 where
   all_columns : {rest : Tokens} → IsSelection star (token.Sign sign.Star ∷ rest) rest
   some_items : {is : List ItemTree} {ts rest : Tokens}
-      → AreListed IsItem (token.Sign sign.Comma) is ts rest → IsSelection (listed is) ts rest
+      → AreListed IsSelectItem (token.Sign sign.Comma) is ts rest → IsSelection (listed is) ts rest
 
 -- table = name | "numbers" "(" number ")"
-pub data IsTable : TableRef → Tokens → Tokens → Type 0 where
+pub data IsTableRef : TableRef → Tokens → Tokens → Type 0 where
   named_table : {name : List ℕ} {rest : Tokens}
-      → IsTable (table.Named name) (token.Name name ∷ rest) rest
+      → IsTableRef (table.Named name) (token.Name name ∷ rest) rest
   numbers_table : {n : ℕ} {rest : Tokens}
-      → IsTable (table.Numbers n)
+      → IsTableRef (table.Numbers n)
       (token.Name (codes "numbers") ∷ token.Sign sign.Open ∷ token.Number n ∷ token.Sign sign.Close
       ∷ rest) rest
 
@@ -170,7 +170,7 @@ pub data IsPair : NamePair → Tokens → Tokens → Type 0 where
 -- JOIN table ON pair {AND pair}
 pub data IsJoined : Join → Tokens → Tokens → Type 0 where
   table_on : {t : TableRef} {ps : List NamePair} {ts mid rest : Tokens}
-      → IsTable t ts (token.Keyword keyword.On ∷ mid)
+      → IsTableRef t ts (token.Keyword keyword.On ∷ mid)
       → AreListed IsPair (token.Keyword keyword.And) ps mid rest
       → IsJoined (record { table = t; pairs = ps }) (token.Keyword keyword.Join ∷ ts) rest
 
@@ -238,7 +238,7 @@ IsLimit = IsClause (token.Keyword keyword.Limit) None Some IsSpan
 -- FROM table [[INNER] JOIN ..] [WHERE cond]
 pub data IsSource : TableRef → Option Join → Option Condition → Tokens → Tokens → Type 0 where
   source_of : {t : TableRef} {j : Option Join} {f : Option Condition} {ts behind more rest : Tokens}
-      → IsTable t ts behind → IsJoin j behind more → IsFilter f more rest
+      → IsTableRef t ts behind → IsJoin j behind more → IsFilter f more rest
       → IsSource t j f (token.Keyword keyword.From ∷ ts) rest
 
 -- [GROUP BY ..] [HAVING hcond] [ORDER BY ..] [LIMIT ..]

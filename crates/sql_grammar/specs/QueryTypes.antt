@@ -18,8 +18,8 @@ Expression = Formula ColumnRef
 abbrev pub CallTree : Type 0
 CallTree = CallForm ColumnRef
 
-abbrev pub Side : Type 0
-Side = OperandForm ColumnRef
+abbrev pub QueryOperand : Type 0
+QueryOperand = OperandForm ColumnRef
 
 abbrev pub Condition : Type 0
-Condition = CondForm Side
+Condition = CondForm QueryOperand

@@ -1,9 +1,9 @@
 -- What analysis asks of a query holds of each query that is read: WHERE has no call, HAVING has the
 -- operands of groups, and each call has its argument.
-use Rattle.sql_text.proofs.Imports.{◌≡◌, List, [], ◌∷◌, map, flat_map, Option, None, Some, option_map, is_some, All, All-nil, All-cons, All-head, All-tail, All-append, All-weaker, operands_of, item_calls, calls_of, IsNoCall, HasItsArgument, IsAnalysable, AggCall, ColumnRef, CondOf, ExprOf, Operand, Item, Items, Query, CallTree, Side, Condition, ItemTree, ItemWhat, Selection, QueryTree, item_tree, Tokens, IsAgg, IsOperand, IsGroupOperand as IsGroupSide, IsCond, one_conj, disjunction, IsConj, one_neg, conjunction, IsNeg, negation, enclosed_cond, comparison, AreListed, last_one, one_more, IsItem, IsSelection, all_columns, some_items, IsFilter, IsHaving, no_clause, clause_of, source_of, shaping_of, IsQuery, select_query, IsText, bare, with_semicolon, IsReadFrom, ℕ, ◌∙◌, arith}
+use Rattle.sql_text.proofs.Imports.{◌≡◌, List, [], ◌∷◌, map, flat_map, Option, None, Some, option_map, is_some, All, All-nil, All-cons, All-head, All-tail, All-append, All-weaker, operands_of, item_calls, calls_of, IsNoCall, HasItsArgument, IsAnalysable, AggCall, ColumnRef, CondOf, ExprOf, Operand, Item, Items, Query, CallTree, QueryOperand, Condition, ItemTree, ItemWhat, Selection, QueryTree, item_tree, Tokens, IsAgg, IsOperand, IsGroupOperand as IsGroupSide, IsCond, one_conj, disjunction, IsConj, one_neg, conjunction, IsNeg, negation, enclosed_cond, comparison, AreListed, last_one, one_more, IsSelectItem, IsSelection, all_columns, some_items, IsFilter, IsHaving, no_clause, clause_of, source_of, shaping_of, IsQuery, select_query, IsText, bare, with_semicolon, IsReadFrom, ℕ, ◌∙◌, arith}
 use Rattle.query_model.specs.Formulas.{argument_form, call, call_form, column, cond_form, number, operand_form, plain, sides_of, text}
 use Rattle.query_model.specs.Formulas.{arith as calculated}
-use Rattle.query_model.specs.Names.{cond_operands, listed, takes_argument, IsGroupOperand}
+use Rattle.query_model.specs.Names.{cond_operands, listed, takes_argument, MayBeGroupOperand}
 use Rattle.query_model.specs.Trees.{call_item, listed as listed_items, plain_item, selection, star}
 use Rattle.query_model.specs.declared.query.Items.TheVariants as items
 use Rattle.query_model.proofs.SameTrees.{forms-are-sides}
@@ -16,12 +16,12 @@ use Rattle.sql_grammar.specs.declared.Token.TheVariants as token
 abbrev HasArgument : CallTree → Type 0
 HasArgument c = is_some c.arg ≡ takes_argument c.op
 
-abbrev IsRowForm : Side → Type 0
+abbrev IsRowForm : QueryOperand → Type 0
 IsRowForm (plain e) = ⊤
 IsRowForm (text t) = ⊤
 IsRowForm (call c) = ⊥
 
-abbrev IsGroupForm : Side → Type 0
+abbrev IsGroupForm : QueryOperand → Type 0
 IsGroupForm (plain (column c)) = ⊤
 IsGroupForm (plain (number n)) = ⊤
 IsGroupForm (plain (calculated op a b)) = ⊥
@@ -38,14 +38,14 @@ IsItemTree i = IsItemForm i.what
 agg_argument : {c : CallTree} {ts rest : Tokens} → IsAgg c ts rest → HasArgument c
 agg_argument is = grind arith
 
-row_side : (s : Side) (ts rest : Tokens) → IsOperand s ts rest → IsRowForm s
+row_side : (s : QueryOperand) (ts rest : Tokens) → IsOperand s ts rest → IsRowForm s
 row_side s ts rest a = grind arith
 
-group_side : (s : Side) (ts rest : Tokens) → IsGroupSide s ts rest → IsGroupForm s
+group_side : (s : QueryOperand) (ts rest : Tokens) → IsGroupSide s ts rest → IsGroupForm s
 group_side s ts rest a = grind (arith, agg_argument)
 
-module _ (Op : Side → Tokens → Tokens → Type 0) (P : Side → Type 0)
-    (each : (s : Side) (ts rest : Tokens) → Op s ts rest → P s) where
+module _ (Op : QueryOperand → Tokens → Tokens → Type 0) (P : QueryOperand → Type 0)
+    (each : (s : QueryOperand) (ts rest : Tokens) → Op s ts rest → P s) where
   mutual
     unfolding sides_of
 
@@ -63,11 +63,11 @@ module _ (Op : Side → Tokens → Tokens → Type 0) (P : Side → Type 0)
     neg_sides (comparison {a = a} {b = b} l o r) =
         All-cons P a (b ∷ []) (each _ _ _ l) (All-cons P b [] (each _ _ _ r) (All-nil P))
 
-item_argument : {i : ItemTree} {ts rest : Tokens} → IsItem i ts rest → IsItemTree i
+item_argument : {i : ItemTree} {ts rest : Tokens} → IsSelectItem i ts rest → IsItemTree i
 item_argument a = grind (arith, agg_argument)
 
 items_arguments : {is : List ItemTree} {ts rest : Tokens}
-    → AreListed IsItem (token.Sign sign.Comma) is ts rest → All IsItemTree is
+    → AreListed IsSelectItem (token.Sign sign.Comma) is ts rest → All IsItemTree is
 items_arguments (last_one i) = All-cons IsItemTree _ [] (item_argument i) (All-nil IsItemTree)
 items_arguments (one_more i is) = All-cons IsItemTree _ _ (item_argument i) (items_arguments is)
 
@@ -75,7 +75,7 @@ abbrev items_in : Selection → List ItemTree
 items_in star = []
 items_in (listed_items is) = is
 
-abbrev sides_in : Option Condition → List Side
+abbrev sides_in : Option Condition → List QueryOperand
 sides_in None = []
 sides_in (Some c) = sides_of c
 
@@ -115,7 +115,7 @@ HasArguments i = All HasItsArgument (item_calls i.what)
 
 -- an operand of HAVING whose call has its argument
 abbrev IsGroupWith : Operand ColumnRef → Type 0
-IsGroupWith o = IsGroupOperand o × All HasItsArgument (calls_of o)
+IsGroupWith o = MayBeGroupOperand o × All HasItsArgument (calls_of o)
 
 -- what holds of what is seen of elements
 of_seen : {A C : Type 0} (g : A → C) (P : C → Type 0) (Q : A → Type 0)
@@ -125,7 +125,7 @@ of_seen g P Q back (x ∷ xs) all =
     All-cons Q x xs (back x (All-head P (g x) (map g xs) all))
     (of_seen g P Q back xs (All-tail P (g x) (map g xs) all))
 
-of_operands : (P : Side → Type 0) (Q : Operand ColumnRef → Type 0)
+of_operands : (P : QueryOperand → Type 0) (Q : Operand ColumnRef → Type 0)
     → ((o : Operand ColumnRef) → P (operand_form o) → Q o) → (c : Option (CondOf ColumnRef))
     → All P (sides_in (option_map cond_form c)) → All Q (operands_of c)
 of_operands P Q back None all = All-nil Q
@@ -169,7 +169,7 @@ analysable_of_read q bytes read =
     let having = of_operands IsGroupForm IsGroupWith group_operand q.having t.having in
     record {
       filter = of_operands IsRowForm IsNoCall no_call q.filter t.filter;
-      having = All-weaker IsGroupWith IsGroupOperand (λ o h. h.0) (operands_of q.having) having;
+      having = All-weaker IsGroupWith MayBeGroupOperand (λ o h. h.0) (operands_of q.having) having;
       calls = All-append HasItsArgument _ _
           (flattened (λ (i : Item). item_calls i.what) (listed q.items) (of_items q.items t.items))
           (flattened calls_of (operands_of q.having)

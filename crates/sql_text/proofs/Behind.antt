@@ -1,6 +1,6 @@
 -- A spelling takes at least one token of what it begins with.
-use Rattle.sql_text.proofs.Imports.{◌<◌, List, ◌∷◌, length, arith, Clause, ColumnRef, Join, NamePair, OrderKey, TableRef, Expression, CallTree, Side, Condition, ItemWhat, ItemTree, Selection, Tokens, IsColumn, IsExpr, one_term, sum, difference, IsTerm, one_factor, product, IsFactor, a_column, a_number, negative, enclosed, IsAgg, call_over, IsOperand, an_expr, IsGroupOperand, a_key, a_call, IsCond, one_conj, disjunction, IsConj, one_neg, conjunction, IsNeg, negation, enclosed_cond, comparison, AreListed, last_one, one_more, IsWhat, an_expression, an_agg, IsItem, IsSelection, IsTable, IsPair, equal_columns, IsJoined, table_on, IsOrderKey, Token}
-use Rattle.sql_text.specs.declared.part.Clause.TheVariants as clause
+use Rattle.sql_text.proofs.Imports.{◌<◌, List, ◌∷◌, length, arith, Clause, ColumnRef, Join, NamePair, OrderKey, TableRef, Expression, CallTree, QueryOperand, Condition, ItemWhat, ItemTree, Selection, Tokens, IsColumn, IsExpr, one_term, sum, difference, IsTerm, one_factor, product, IsFactor, a_column, a_number, negative, enclosed, IsAgg, call_over, IsOperand, an_expr, IsGroupOperand, a_key, a_call, IsCond, one_conj, disjunction, IsConj, one_neg, conjunction, IsNeg, negation, enclosed_cond, comparison, AreListed, last_one, one_more, IsWhat, an_expression, an_agg, IsSelectItem, IsSelection, IsTableRef, IsPair, equal_columns, IsJoined, table_on, IsOrderKey, Token}
+use Rattle.sql_text.specs.declared.term.Clause.TheVariants as clause
 use Rattle.sql_grammar.specs.declared.Token.TheVariants as token
 
 abbrev pub IsShorter : Tokens → Tokens → Type 0
@@ -30,11 +30,11 @@ agg_shorter (call_over h k e) = omega (arith, expr_shorter e)
 agg_shorter _ = omega arith
 
 -- the operands of a clause's conditions
-abbrev pub operands_in : Clause → Side → Tokens → Tokens → Type 0
+abbrev pub operands_in : Clause → QueryOperand → Tokens → Tokens → Type 0
 operands_in clause.OfRows s ts rest = IsOperand s ts rest
 operands_in clause.OfGroups s ts rest = IsGroupOperand s ts rest
 
-pub operand_shorter : (k : Clause) (s : Side) (ts rest : Tokens) → operands_in k s ts rest
+pub operand_shorter : (k : Clause) (s : QueryOperand) (ts rest : Tokens) → operands_in k s ts rest
     → IsShorter rest ts
 operand_shorter clause.OfRows s ts rest (an_expr e) = expr_shorter e
 operand_shorter clause.OfGroups s ts rest (a_key c) = column_shorter c
@@ -71,14 +71,14 @@ pub what_shorter : {w : ItemWhat} {ts rest : Tokens} → IsWhat w ts rest → Is
 what_shorter (an_expression e) = expr_shorter e
 what_shorter (an_agg c) = agg_shorter c
 
-pub item_shorter : {i : ItemTree} {ts rest : Tokens} → IsItem i ts rest → IsShorter rest ts
+pub item_shorter : {i : ItemTree} {ts rest : Tokens} → IsSelectItem i ts rest → IsShorter rest ts
 item_shorter a = grind (arith, what_shorter)
 
 pub selection_shorter : {s : Selection} {ts rest : Tokens} → IsSelection s ts rest
     → IsShorter rest ts
 selection_shorter a = grind (arith, list_shorter, item_shorter)
 
-pub table_shorter : {t : TableRef} {ts rest : Tokens} → IsTable t ts rest → IsShorter rest ts
+pub table_shorter : {t : TableRef} {ts rest : Tokens} → IsTableRef t ts rest → IsShorter rest ts
 table_shorter a = grind arith
 
 pub pair_shorter : {p : NamePair} {ts rest : Tokens} → IsPair p ts rest → IsShorter rest ts

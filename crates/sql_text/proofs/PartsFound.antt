@@ -1,13 +1,13 @@
 -- What is spelled is read.
-use Rattle.sql_text.proofs.Imports.{◌≡◌, ℕ, suc, ◌≤◌, true, List, ◌∷◌, length, Some, None, option_and_then, refl, ap, ◌∙◌, arith, column, AggOp, ColumnRef, CompareOp, aggregate_of, has_argument, Expression, CallTree, Side, plain, text, call, Condition, compare, Tokens, IsColumn, unqualified, IsExpr, one_term, sum, difference, IsTerm, one_factor, product, IsFactor, a_column, a_number, negative, enclosed, IsAgg, count_rows, count_star, call_over as over, an_expr, a_key, a_call, IsComparison, IsCond, one_conj, disjunction, IsConj, one_neg, conjunction, IsNeg, negation, enclosed_cond, comparison, Sign, Clause, Parsed, expression, string, aggregate, truth, Reads, joint_of, if_level, next_joint, combined, side_of, dotted, closed_at, call_at, called, negation_at, first_part, part_at}
+use Rattle.sql_text.proofs.Imports.{◌≡◌, ℕ, suc, ◌≤◌, true, List, ◌∷◌, length, Some, None, option_and_then, refl, ap, ◌∙◌, arith, column, AggOp, ColumnRef, CompareOp, aggregate_of, has_argument, Expression, CallTree, QueryOperand, plain, text, call, Condition, compare, Tokens, IsColumn, unqualified, IsExpr, one_term, sum, difference, IsTerm, one_factor, product, IsFactor, a_column, a_number, negative, enclosed, IsAgg, count_rows, count_star, call_over as over, an_expr, a_key, a_call, IsComparison, IsCond, one_conj, disjunction, IsConj, one_neg, conjunction, IsNeg, negation, enclosed_cond, comparison, Sign, Clause, Parsed, expression, string, aggregate, truth, OperandParser, joint_of, if_level, next_joint, binary_of, side_of, dotted, closed_at, call_at, called, negation_at, first_term, term_at}
 use Rattle.query_model.specs.declared.query.ArithOp.TheVariants as op
 use Rattle.sql_grammar.specs.declared.Token.TheVariants as token
 use Rattle.sql_grammar.specs.declared.Sign.TheVariants as sign
-use Rattle.sql_text.specs.declared.part.Clause.TheVariants as clause
-use Rattle.sql_text.specs.declared.part.BinaryOperator.TheVariants as joint
-use Rattle.sql_text.specs.Parts.{call_over}
+use Rattle.sql_text.specs.declared.term.Clause.TheVariants as clause
+use Rattle.sql_text.specs.declared.term.BinaryOperator.TheVariants as joint
+use Rattle.sql_text.specs.Terms.{call_over}
 use Rattle.sql_text.proofs.Behind.{operands_in, expr_shorter, term_shorter, factor_shorter, operand_shorter, cond_shorter, conj_shorter, neg_shorter}
-use Rattle.sql_text.proofs.Turns.{ends_name, if_level-none, loose, tighter, Goes, from_first, onward, deeper}
+use Rattle.sql_text.proofs.Turns.{ends_name, if_level-none, none_above_products, tighter, Goes, from_first, onward, deeper}
 
 -- ---- expressions
 
@@ -20,17 +20,17 @@ pub nothing_called : (w : List ℕ) (ts : Tokens) → ends_name ts ≡ true → 
 nothing_called w ts h = grind arith
 
 column_found : (k : Clause) (n : ℕ) {c : ColumnRef} {ts rest : Tokens} → IsColumn c ts rest
-    → ends_name rest ≡ true → first_part k (part_at n) ts ≡ Some (expression (column c), rest)
+    → ends_name rest ≡ true → first_term k (term_at n) ts ≡ Some (expression (column c), rest)
 column_found k n (unqualified {name = name} {rest = rest}) h =
     grind (arith, dotted_found, nothing_called)
 column_found k n a h = grind (arith, dotted_found, nothing_called)
 
 -- what stands in parentheses
-inside_found : (k : Clause) (n : ℕ) (v : Parsed) (ts rest : Tokens) → part_at n k 1 ts ≡ Some (
+inside_found : (k : Clause) (n : ℕ) (v : Parsed) (ts rest : Tokens) → term_at n k 1 ts ≡ Some (
   v,
   token.Sign sign.Close ∷ rest,
 ) → closed_at k v (token.Sign sign.Close ∷ rest) ≡ Some (v, rest)
-    → first_part k (part_at n) (token.Sign sign.Open ∷ ts) ≡ Some (v, rest)
+    → first_term k (term_at n) (token.Sign sign.Open ∷ ts) ≡ Some (v, rest)
 inside_found k n v ts rest read close = ap (option_and_then (λ p. closed_at k p.0 p.1)) read ∙ close
 
 -- What is spelled so is read at each level up to top, where no binary operator of bar or above
@@ -42,7 +42,7 @@ ReadsAs k top bar v ts rest = (n least : ℕ) → least ≤ top → ends_name re
 mutual
   factor_found : {e : Expression} {ts rest : Tokens} → IsFactor e ts rest → (n : ℕ)
       → ends_name rest ≡ true → length ts ≤ suc n
-      → first_part clause.OfRows (part_at n) ts ≡ Some (expression e, rest)
+      → first_term clause.OfRows (term_at n) ts ≡ Some (expression e, rest)
   factor_found (a_column c) n h l = column_found clause.OfRows n c h
   factor_found a_number n h l = refl
   factor_found negative n h l = refl
@@ -62,15 +62,15 @@ mutual
   pub expr_found : {e : Expression} {ts rest : Tokens} → IsExpr e ts rest
       → ReadsAs clause.OfRows 5 6 (expression e) ts rest
   expr_found (one_term a) n least k h none l =
-      term_found a n least (omega arith) h (loose _) l
+      term_found a n least (omega arith) h (none_above_products _) l
   expr_found (sum left right) n least k h none l =
       onward (joint.Arith op.Add) (expr_found left n least k refl refl l) refl k
       (expr_shorter left) l (term_shorter right)
-      (λ m i. term_found right m 6 (omega arith) h (loose _) i) none refl
+      (λ m i. term_found right m 6 (omega arith) h (none_above_products _) i) none refl
   expr_found (difference left right) n least k h none l =
       onward (joint.Arith op.Sub) (expr_found left n least k refl refl l) refl k
       (expr_shorter left) l (term_shorter right)
-      (λ m i. term_found right m 6 (omega arith) h (loose _) i) none refl
+      (λ m i. term_found right m 6 (omega arith) h (none_above_products _) i) none refl
 
 -- ---- calls
 
@@ -81,9 +81,9 @@ pub record Calls (n : ℕ) (c : CallTree) (ts rest : Tokens) : Type 0 where
   pub inside : Tokens
   pub front : ts ≡ token.Name word ∷ token.Sign sign.Open ∷ inside
   pub known : aggregate_of word ≡ Some op
-  pub read : call_at (part_at n) op inside ≡ Some (c, rest)
+  pub read : call_at (term_at n) op inside ≡ Some (c, rest)
 
-over_read : (inner : Reads) (op : AggOp) (ts : Tokens) → has_argument op ≡ true
+over_read : (inner : OperandParser) (op : AggOp) (ts : Tokens) → has_argument op ≡ true
     → call_at inner op ts ≡ call_over op (inner clause.OfRows 5 ts)
 over_read inner op ts h = grind arith
 
@@ -97,26 +97,26 @@ agg_found (over {w = w} {op = op} {e = e} {ts = ts} {rest = rest} h k is) n l = 
   inside = ts;
   front = refl;
   known = h;
-  read = over_read (part_at n) op ts k ∙ ap (call_over op) (deeper n (omega arith)
+  read = over_read (term_at n) op ts k ∙ ap (call_over op) (deeper n (omega arith)
       (expr_shorter is) (λ m i. expr_found is m 5 (omega arith) refl refl i) refl);
 }
 
 -- a call is read as one in HAVING
 call_found : (n : ℕ) (c : CallTree) (ts rest : Tokens) → Calls n c ts rest
-    → first_part clause.OfGroups (part_at n) ts ≡ Some (aggregate c, rest)
+    → first_term clause.OfGroups (term_at n) ts ≡ Some (aggregate c, rest)
 call_found n c ts rest it = grind arith
 
 -- ---- conditions
 
-abbrev of_side : Side → Parsed
+abbrev of_side : QueryOperand → Parsed
 of_side (plain e) = expression e
 of_side (text t) = string t
 of_side (call c) = aggregate c
 
-of_operand : (s : Side) → side_of (of_side s) ≡ Some s
+of_operand : (s : QueryOperand) → side_of (of_side s) ≡ Some s
 of_operand s = grind arith
 
-operand_found : (c : Clause) (s : Side) (ts rest : Tokens) → operands_in c s ts rest
+operand_found : (c : Clause) (s : QueryOperand) (ts rest : Tokens) → operands_in c s ts rest
     → ReadsAs c 5 6 (of_side s) ts rest
 operand_found clause.OfRows s ts rest (an_expr e) n least k h none l =
     expr_found e n least k h none l
@@ -132,8 +132,8 @@ comparison_joint : {o : CompareOp} {s : Sign} → IsComparison o s
     × ((ts : Tokens) → ends_name (token.Sign s ∷ ts) ≡ true)
 comparison_joint a = grind arith
 
-compared : (c : Clause) (o : CompareOp) (a b : Side)
-    → combined c (joint.Compare o) (of_side a) (of_side b) ≡ Some (truth (compare o a b))
+compared : (c : Clause) (o : CompareOp) (a b : QueryOperand)
+    → binary_of c (joint.Compare o) (of_side a) (of_side b) ≡ Some (truth (compare o a b))
 compared c o a b = rw (of_operand a, of_operand b) refl
 
 module _ (c : Clause) where

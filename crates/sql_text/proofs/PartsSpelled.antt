@@ -1,15 +1,15 @@
 -- What is read is spelled so.
-use Rattle.sql_text.proofs.Imports.{◌≡◌, ℕ, zero, suc, ◌≤◌, true, false, List, ◌∷◌, length, Option, Some, None, option_and_then, option_map, IfSome, refl, sym, subst, arith, number, AggOp, ArithOp, CompareOp, aggregate_of, has_argument, Expression, CallTree, Side, plain, text, Condition, compare, both, Tokens, IsColumn, unqualified, qualified, IsExpr, one_term, sum, difference, IsTerm, one_factor, product, IsFactor, a_column, a_number, negative, enclosed, IsAgg, count_rows, count_star, call_over as called_over, an_expr, a_string, IsGroupOperand, a_key, a_call, a_constant, a_negative, a_text, IsComparison, equal, not_equal, less, less_equal, greater, greater_equal, IsCond, one_conj, disjunction, IsConj, one_neg, conjunction, IsNeg, negation, enclosed_cond, comparison, Token, Sign, BinaryOperator, Clause, Parsed, expression, string, aggregate, truth, Reading, Reads, sign_joint, joint_of, level, if_level, next_joint, if_both, calculated, combined, side_of, plain_of, dotted, column_at, negative_at, closed_at, count_at, over, call_at, called, call_or_column, word_at, negation_at, first_sign, first_part, turn_of, joined_at, joined, part_at}
+use Rattle.sql_text.proofs.Imports.{◌≡◌, ℕ, zero, suc, ◌≤◌, true, false, List, ◌∷◌, length, Option, Some, None, option_and_then, option_map, IfSome, refl, sym, subst, arith, number, AggOp, ArithOp, CompareOp, aggregate_of, has_argument, Expression, CallTree, QueryOperand, plain, text, Condition, compare, both, Tokens, IsColumn, unqualified, qualified, IsExpr, one_term, sum, difference, IsTerm, one_factor, product, IsFactor, a_column, a_number, negative, enclosed, IsAgg, count_rows, count_star, call_over as called_over, an_expr, a_string, IsGroupOperand, a_key, a_call, a_constant, a_negative, a_text, IsComparison, equal, not_equal, less, less_equal, greater, greater_equal, IsCond, one_conj, disjunction, IsConj, one_neg, conjunction, IsNeg, negation, enclosed_cond, comparison, Token, Sign, BinaryOperator, Clause, Parsed, expression, string, aggregate, truth, Parse, OperandParser, sign_joint, joint_of, level, if_level, next_joint, if_both, calculated, binary_of, side_of, plain_operand, dotted, column_at, negative_at, closed_at, count_at, over, call_at, called, call_or_column, word_at, negation_at, first_sign, first_term, turn_of, joined_at, joined, term_at}
 use Rattle.query_model.specs.Formulas.{arith as arithmetic}
 use Rattle.query_model.specs.declared.query.AggOp.TheVariants as agg
 use Rattle.query_model.specs.declared.query.ArithOp.TheVariants as op
 use Rattle.sql_grammar.specs.declared.Token.TheVariants as token
 use Rattle.sql_grammar.specs.declared.Keyword.TheVariants as keyword
 use Rattle.sql_grammar.specs.declared.Sign.TheVariants as sign
-use Rattle.sql_text.specs.declared.part.BinaryOperator.TheVariants as joint
-use Rattle.sql_text.specs.declared.part.Clause.TheVariants as clause
-use Rattle.sql_text.specs.Parts.{call_over}
-use Rattle.sql_text.proofs.Turns.{level_below, loose, tighter}
+use Rattle.sql_text.specs.declared.term.BinaryOperator.TheVariants as joint
+use Rattle.sql_text.specs.declared.term.Clause.TheVariants as clause
+use Rattle.sql_text.specs.Terms.{call_over}
+use Rattle.sql_text.proofs.Turns.{level_below, none_above_products, tighter}
 use Rattle.sql_text.proofs.Behind.{operands_in}
 
 pub bind : {A B : Type 0} (P : A → Type 0) (Q : B → Type 0) (f : A → Option B) (o : Option A)
@@ -67,7 +67,7 @@ pub record Found (k : Clause) (least : ℕ) (v : Parsed) (ts rest : Tokens) : Ty
   pub is : IsPart k least v ts rest
   pub none : next_joint least rest ≡ None
 
-abbrev pub AreSpelled : Reads → Type 0
+abbrev pub AreSpelled : OperandParser → Type 0
 AreSpelled inner = (k : Clause) (least : ℕ) (ts : Tokens) → least ≤ 7
     → IfSome (inner k least ts) (λ r. Found k least r.0 ts r.1)
 
@@ -79,17 +79,19 @@ count_spelled w ts h = grind (arith, count_rows, count_star)
 
 over_spelled : (w : List ℕ) (op : AggOp) (v : Parsed) (ts mid : Tokens) → aggregate_of w ≡ Some op
     → has_argument op ≡ true → IsPart clause.OfRows 5 v ts mid → IfSome (option_and_then (λ e. over
-    op e mid) (plain_of v)) (λ r. IsAgg r.0 (token.Name w ∷ token.Sign sign.Open ∷ ts) r.1)
+    op e mid) (plain_operand v)) (λ r. IsAgg r.0 (token.Name w ∷ token.Sign sign.Open ∷ ts) r.1)
 over_spelled w op v ts mid h k is = grind (arith, called_over)
 
-read_over_spelled : (inner : Reads) → AreSpelled inner → (w : List ℕ) (op : AggOp) (ts : Tokens)
+read_over_spelled : (inner : OperandParser) → AreSpelled inner
+    → (w : List ℕ) (op : AggOp) (ts : Tokens)
     → aggregate_of w ≡ Some op → has_argument op ≡ true → IfSome (call_over op
     (inner clause.OfRows 5 ts)) (λ r. IsAgg r.0 (token.Name w ∷ token.Sign sign.Open ∷ ts) r.1)
 read_over_spelled inner h w op ts known has =
     bind _ _ _ (inner clause.OfRows 5 ts) (h clause.OfRows 5 ts (omega arith))
     (λ p found. over_spelled w op p.0 ts p.1 known has found.is)
 
-pub call_spelled : (inner : Reads) → AreSpelled inner → (w : List ℕ) (op : AggOp) (ts : Tokens)
+pub call_spelled : (inner : OperandParser) → AreSpelled inner
+    → (w : List ℕ) (op : AggOp) (ts : Tokens)
     → aggregate_of w ≡ Some op
     → IfSome (call_at inner op ts) (λ r. IsAgg r.0 (token.Name w ∷ token.Sign sign.Open ∷ ts) r.1)
 call_spelled inner h w op ts known = grind (arith, count_spelled, read_over_spelled)
@@ -100,7 +102,7 @@ pub called_is : (w : List ℕ) (ts : Tokens) (c : AggOp × Tokens) → called w 
 called_is w x1 c e = grind arith
 
 -- a call that is found at a word
-pub word_called : (inner : Reads) → AreSpelled inner
+pub word_called : (inner : OperandParser) → AreSpelled inner
     → (w : List ℕ) (ts : Tokens) (c : AggOp × Tokens) → called w ts ≡ Some c
     → IfSome (call_at inner c.0 c.1) (λ r. IsAgg r.0 (token.Name w ∷ ts) r.1)
 word_called inner h w ts c e =
@@ -119,7 +121,7 @@ column_spelled : (k : Clause) (w : List ℕ) (ts : Tokens)
 column_spelled clause.OfRows w ts = a_factor 7 (a_column (dotted_spelled w ts))
 column_spelled clause.OfGroups w ts = a_key (dotted_spelled w ts)
 
-word_spelled : (k : Clause) (inner : Reads) → AreSpelled inner → (w : List ℕ) (ts : Tokens)
+word_spelled : (k : Clause) (inner : OperandParser) → AreSpelled inner → (w : List ℕ) (ts : Tokens)
     → IfSome (word_at k inner w ts) (λ r. IsPart k 7 r.0 (token.Name w ∷ ts) r.1)
 word_spelled clause.OfRows inner h w ts = column_spelled clause.OfRows w ts
 word_spelled clause.OfGroups inner h w ts = go (called w ts) refl
@@ -152,12 +154,12 @@ negation_spelled : (k : Clause) (v : Parsed) (ts rest : Tokens) → IsPart k 4 v
 negation_spelled k (truth c) ts rest is = a_neg k 7 (negation (is.neg (omega arith)))
 negation_spelled k _ ts rest is = tt
 
-sign_spelled : (k : Clause) (inner : Reads) → AreSpelled inner → (s : Sign) (ts : Tokens)
+sign_spelled : (k : Clause) (inner : OperandParser) → AreSpelled inner → (s : Sign) (ts : Tokens)
     → IfSome (first_sign k inner s ts) (λ r. IsPart k 7 r.0 (token.Sign s ∷ ts) r.1)
 sign_spelled k inner h s ts = grind (arith, bind, closed_spelled, negative_spelled)
 
-first_spelled : (k : Clause) (inner : Reads) → AreSpelled inner → (ts : Tokens)
-    → IfSome (first_part k inner ts) (λ r. IsPart k 7 r.0 ts r.1)
+first_spelled : (k : Clause) (inner : OperandParser) → AreSpelled inner → (ts : Tokens)
+    → IfSome (first_term k inner ts) (λ r. IsPart k 7 r.0 ts r.1)
 first_spelled k inner h ts =
     grind (arith, word_spelled, number_spelled, sign_spelled, bind, negation_spelled)
 
@@ -213,7 +215,7 @@ as_operand : (k : Clause) (tight : ℕ) (v : Parsed) (ts rest : Tokens) → IsPa
 as_operand k tight v ts rest is = grind (arith, an_expr, text, a_string, a_text, a_call)
 
 module _ (k : Clause) where
-  sides_compared : (o : CompareOp) (v w : Option Side) (ts mid rest : Tokens) (s : Sign)
+  sides_compared : (o : CompareOp) (v w : Option QueryOperand) (ts mid rest : Tokens) (s : Sign)
       → IsComparison o s → IfSome v (λ a. operands_in k a ts (token.Sign s ∷ mid))
       → IfSome w (λ b. operands_in k b mid rest)
       → IfSome (if_both (λ l r. truth (compare o l r)) v w) (λ u. IsPart k 4 u ts rest)
@@ -222,18 +224,18 @@ module _ (k : Clause) where
 
   and_spelled : (bound : ℕ) (v w : Parsed) (ts mid rest : Tokens) (t : Token)
       → t ≡ token.Keyword keyword.And → 2 ≤ bound → IsPart k bound v ts (t ∷ mid)
-      → IsPart k 3 w mid rest → IfSome (combined k joint.And v w) (λ u. IsPart k 2 u ts rest)
+      → IsPart k 3 w mid rest → IfSome (binary_of k joint.And v w) (λ u. IsPart k 2 u ts rest)
   and_spelled bound v w ts mid rest t is h l r =
       grind (arith, operands_in, both, conjunction, one_conj)
 
   or_spelled : (bound : ℕ) (v w : Parsed) (ts mid rest : Tokens) (t : Token)
       → t ≡ token.Keyword keyword.Or → IsPart k bound v ts (t ∷ mid) → IsPart k 2 w mid rest
-      → IfSome (combined k joint.Or v w) (λ u. IsPart k 1 u ts rest)
+      → IfSome (binary_of k joint.Or v w) (λ u. IsPart k 1 u ts rest)
   or_spelled bound v w ts mid rest t is l r = grind (arith, operands_in, disjunction)
 
   combined_spelled : (j : BinaryOperator) (bound : ℕ) (v w : Parsed) (ts mid rest : Tokens)
       (t : Token) → IsJoint j t → level j ≤ bound → IsPart k bound v ts (t ∷ mid) → IsPart k
-      (suc (level j)) w mid rest → IfSome (combined k j v w) (λ u. IsPart k (level j) u ts rest)
+      (suc (level j)) w mid rest → IfSome (binary_of k j v w) (λ u. IsPart k (level j) u ts rest)
   combined_spelled (joint.Arith o) bound v w ts mid rest t is h l r =
       arith_spelled k o bound v w ts mid rest t is h l r
   combined_spelled (joint.Compare o) bound v w ts mid rest t is h l r =
@@ -252,21 +254,21 @@ record IsTurned (k : Clause) (tight : ℕ) (v : Parsed) (ts rest : Tokens) : Typ
   none : next_joint (suc tight) rest ≡ None
 
 -- what the turns keep: the part at the left, behind which none binds more tightly than bound
-abbrev GoOn : Clause → (Parsed → Tokens → Reading Parsed) → ℕ → Type 0
+abbrev GoOn : Clause → (Parsed → Tokens → Parse Parsed) → ℕ → Type 0
 GoOn k more least = (bound : ℕ) (v : Parsed) (ts mid : Tokens) → least ≤ bound → IsPart k bound v ts
     mid → next_joint (suc bound) mid ≡ None → IfSome (more v mid) (λ r. Found k least r.0 ts r.1)
 
-module _ (k : Clause) (right : Reads) (h : AreSpelled right) where
+module _ (k : Clause) (right : OperandParser) (h : AreSpelled right) where
   turn_spelled : (j : BinaryOperator) (bound : ℕ) (v : Parsed) (ts mid : Tokens) (t : Token)
       → IsJoint j t → level j ≤ bound → IsPart k bound v ts (t ∷ mid)
       → IfSome (turn_of k right j v mid) (λ r. IsTurned k (level j) r.0 ts r.1)
   turn_spelled j bound v ts mid t is high left =
       bind _ _ _ (right k (suc (level j)) mid) (h k (suc (level j)) mid (level_below j))
-      (λ r found. map_some _ _ _ (combined k j v r.0)
+      (λ r found. map_some _ _ _ (binary_of k j v r.0)
       (combined_spelled k j bound v r.0 ts mid r.1 t is high left found.is)
       (λ u part. record { is = part; none = found.none }))
 
-  joined_at-spelled : (more : Parsed → Tokens → Reading Parsed) (least : ℕ) → GoOn k more least
+  joined_at-spelled : (more : Parsed → Tokens → Parse Parsed) (least : ℕ) → GoOn k more least
       → (bound : ℕ) (v : Parsed) (ts mid : Tokens) → least ≤ bound → IsPart k bound v ts mid
       → (o : Option (BinaryOperator × Tokens)) → next_joint least mid ≡ o
       → IfSome o (λ n. Joins least bound
@@ -286,11 +288,11 @@ module _ (k : Clause) (right : Reads) (h : AreSpelled right) where
       mid i is
       (next_joint least mid) refl (next_joins least bound mid none)
 
-pub part_spelled : (depth : ℕ) → AreSpelled (part_at depth)
-unfolding part_at
+pub part_spelled : (depth : ℕ) → AreSpelled (term_at depth)
+unfolding term_at
 part_spelled zero k least ts i = tt
 part_spelled (suc depth) k least ts i =
-    bind _ _ _ (first_part k (part_at depth) ts)
-    (first_spelled k (part_at depth) (part_spelled depth) ts)
-    (λ p is. joined_spelled k (part_at depth) (part_spelled depth) least (suc (length p.1)) 7 p.0 ts
-    p.1 i is (tighter 7 8 p.1 (omega arith) (loose p.1)))
+    bind _ _ _ (first_term k (term_at depth) ts)
+    (first_spelled k (term_at depth) (part_spelled depth) ts)
+    (λ p is. joined_spelled k (term_at depth) (part_spelled depth) least (suc (length p.1)) 7 p.0 ts
+    p.1 i is (tighter 7 8 p.1 (omega arith) (none_above_products p.1)))

@@ -1,11 +1,11 @@
 -- A query is read exactly where one is spelled.
-use Rattle.sql_text.proofs.Imports.{◌≡◌, ℕ, zero, suc, ◌≤◌, Bool, true, false, cond, List, [], ◌∷◌, length, Option, Some, None, option_and_then, option_map, IfSome, refl, ap, ◌∙◌, arith, codes, bytes_eq, IfSome_then, bytes_eq-Decides, AggOp, ColumnRef, Join, NamePair, OrderKey, Span, TableRef, Expression, CallTree, Condition, ItemWhat, plain_item, ItemTree, Selection, listed, QueryTree, Tokens, IsExpr, IsColumn, unqualified, qualified, one_term, sum, difference, IsTerm, one_factor, product, IsFactor, a_column, a_number, negative, enclosed, IsAgg, IsCond, AreListed, last_one as the_last, one_more as and_more, IsWhat, an_expression, an_agg, IsItem, unnamed, named, IsSelection, all_columns, some_items, IsTable, named_table, numbers_table, IsPair, equal_columns, IsJoined, table_on, IsJoin, no_join, join_of as joined_with, inner_join, IsFilter, AreKeys, IsHaving, IsOrderKey, unstated, ascending, descending, IsOrder, IsLimit, source_of, shaping_of, IsQuery, select_query, IsText, bare, with_semicolon, Token, Clause, Parsed, expression, Reading, next_joint, plain_of, condition_of, call_at, part_at, list_behind, list_at, behind, alias_at, call_front, plain_what, what_by, what_at, item_of, with_alias, item_at, items_at, selection_at, count_behind, table_named, table_at, from_at, column_ref_at, after_equal, pair_behind, pair_at, on_at, joined_table_at, some_join, join_at, condition_at, clause_at, keys_at, direction_at, order_key_at, order_at, limit_at, is_end, Ending, ending_at, query_of, query_at, AreBy, IsClause, IsGroupOperand, IsNumber, IsOperand, IsSpan, Mark, by_at, clause_behind, clause_of, filter_at, having_at, listed_by, no_clause, number_at, number_of, offset_at, reads, span_at, span_of, span_with, text_query}
+use Rattle.sql_text.proofs.Imports.{◌≡◌, ℕ, zero, suc, ◌≤◌, Bool, true, false, cond, List, [], ◌∷◌, length, Option, Some, None, option_and_then, option_map, IfSome, refl, ap, ◌∙◌, arith, codes, bytes_eq, IfSome_then, bytes_eq-Decides, AggOp, ColumnRef, Join, NamePair, OrderKey, Span, TableRef, Expression, CallTree, Condition, ItemWhat, plain_item, ItemTree, Selection, listed, QueryTree, Tokens, IsExpr, IsColumn, unqualified, qualified, one_term, sum, difference, IsTerm, one_factor, product, IsFactor, a_column, a_number, negative, enclosed, IsAgg, IsCond, AreListed, last_one as the_last, one_more as and_more, IsWhat, an_expression, an_agg, IsSelectItem, unnamed, named, IsSelection, all_columns, some_items, IsTableRef, named_table, numbers_table, IsPair, equal_columns, IsJoined, table_on, IsJoin, no_join, join_of as joined_with, inner_join, IsFilter, AreKeys, IsHaving, IsOrderKey, unstated, ascending, descending, IsOrder, IsLimit, source_of, shaping_of, IsQuery, select_query, IsText, bare, with_semicolon, Token, Clause, Parsed, expression, Parse, next_joint, plain_operand, condition_of, call_at, term_at, list_behind, list_at, behind, alias_at, call_front, plain_what, what_by, what_at, item_of, with_alias, item_at, items_at, selection_at, count_behind, table_named, table_at, from_at, column_ref_at, after_equal, pair_behind, pair_at, on_at, joined_table_at, some_join, join_at, condition_at, clause_at, keys_at, direction_at, order_key_at, order_at, limit_at, is_text_end, QueryTail, ending_at, query_of, query_at, AreBy, IsClause, IsGroupOperand, IsNumber, IsOperand, IsSpan, Separator, by_at, clause_behind, clause_of, filter_at, having_at, listed_by, no_clause, number_parse, number_of, offset_at, reads, span_at, span_of, span_with, text_query}
 use Rattle.query_model.specs.declared.query.TableRef.TheVariants as table
 use Rattle.sql_grammar.specs.declared.Token.TheVariants as token
 use Rattle.sql_grammar.specs.declared.Keyword.TheVariants as keyword
 use Rattle.sql_grammar.specs.declared.Sign.TheVariants as sign
-use Rattle.sql_text.specs.declared.lists.Mark.TheVariants as between
-use Rattle.sql_text.specs.declared.part.Clause.TheVariants as clause
+use Rattle.sql_text.specs.declared.lists.Separator.TheVariants as between
+use Rattle.sql_text.specs.declared.term.Clause.TheVariants as clause
 use Rattle.sql_text.proofs.Behind.{IsShorter, operands_in, expr_shorter, cond_shorter, column_shorter, item_shorter, selection_shorter, table_shorter, pair_shorter, joined_shorter, order_key_shorter, list_shorter}
 use Rattle.sql_text.proofs.Turns.{ends_name, tighter, deeper}
 use Rattle.sql_text.proofs.PartsFound.{expr_found, cond_found, Calls, agg_found, nothing_called, dotted_found}
@@ -16,7 +16,7 @@ use Rattle.sql_text.proofs.PartsSpelled.{IsPart, bind, map_some, part_spelled, w
 -- ---- lists
 
 -- the token of a mark
-abbrev mark : Mark → Token
+abbrev mark : Separator → Token
 mark between.Comma = token.Sign sign.Comma
 mark between.And = token.Keyword keyword.And
 mark between.Where = token.Keyword keyword.Where
@@ -27,14 +27,14 @@ mark between.Order = token.Keyword keyword.Order
 mark between.Limit = token.Keyword keyword.Limit
 mark between.Offset = token.Keyword keyword.Offset
 
-mark_behind : (s : Mark) (ts : Tokens) → behind s (mark s ∷ ts) ≡ Some ts
+mark_behind : (s : Separator) (ts : Tokens) → behind s (mark s ∷ ts) ≡ Some ts
 mark_behind s ts = grind arith
 
-behind_is : (s : Mark) (ts rest : Tokens) → behind s ts ≡ Some rest → ts ≡ mark s ∷ rest
+behind_is : (s : Separator) (ts rest : Tokens) → behind s ts ≡ Some rest → ts ≡ mark s ∷ rest
 behind_is s ts rest h = grind arith
 
-module _ {X : Type 0} (Is : X → Tokens → Tokens → Type 0) (s : Mark)
-    (read : Tokens → Reading X) where
+module _ {X : Type 0} (Is : X → Tokens → Tokens → Type 0) (s : Separator)
+    (read : Tokens → Parse X) where
   module _ (less : (x : X) (ts rest : Tokens) → Is x ts rest → IsShorter rest ts)
       (most : ℕ) (Ends : Tokens → Type 0) (goes : (ts : Tokens) → Ends (mark s ∷ ts))
       (found : (x : X) (ts rest : Tokens) → Is x ts rest → length ts ≤ most → Ends rest
@@ -56,7 +56,7 @@ module _ {X : Type 0} (Is : X → Tokens → Tokens → Type 0) (s : Mark)
 
 plain_found : (n : ℕ) {e : Expression} {ts rest : Tokens} → IsExpr e ts rest → length ts ≤ n
     → ends_name rest ≡ true → next_joint 5 rest ≡ None
-    → part_at n clause.OfRows 5 ts ≡ Some (expression e, rest)
+    → term_at n clause.OfRows 5 ts ≡ Some (expression e, rest)
 plain_found n {e = e} {ts = ts} {rest = rest} is l ends none =
     deeper n l (expr_shorter is)
     (λ m k. expr_found is m 5 (omega arith) ends (tighter 5 6 rest (omega arith) none) k) none
@@ -92,7 +92,7 @@ what_found : {w : ItemWhat} {ts rest : Tokens} → IsWhat w ts rest → (n : ℕ
     → ends_name rest ≡ true → next_joint 5 rest ≡ None → what_at n ts ≡ Some (w, rest)
 what_found (an_expression {e = e} {ts = ts} {rest = rest} is) n l ends none =
     ap (what_by n ts) ((expr_begins is).1 ends)
-    ∙ ap (option_and_then (λ p. option_map (λ e. (plain_item e, p.1)) (plain_of p.0)))
+    ∙ ap (option_and_then (λ p. option_map (λ e. (plain_item e, p.1)) (plain_operand p.0)))
     (plain_found n is l ends none)
 what_found (an_agg {c = c} {ts = ts} {rest = rest} is) n l ends none =
     grind (arith, Calls n c ts rest, agg_found is n (omega arith))
@@ -107,7 +107,7 @@ item_from : (n : ℕ) (w : ItemWhat) (alias : Option (List ℕ)) (ts mid rest : 
     Some (w, mid) → alias_at mid ≡ Some (alias, rest) → item_at n ts ≡ Some (item_of w alias, rest)
 item_from n w alias ts mid rest read more = grind arith
 
-item_found : (n : ℕ) {i : ItemTree} {ts rest : Tokens} → IsItem i ts rest → length ts ≤ n
+item_found : (n : ℕ) {i : ItemTree} {ts rest : Tokens} → IsSelectItem i ts rest → length ts ≤ n
     → EndsItem rest → item_at n ts ≡ Some (i, rest)
 item_found n (unnamed {w = w} {ts = ts} {rest = rest} is) l ends =
     item_from n w None ts rest rest (what_found is n l ends.name ends.joint) ends.alias
@@ -117,14 +117,14 @@ item_found n (named {w = w} {name = name} {ts = ts} {rest = rest} is) l ends =
 agg_no_star : {c : CallTree} {ts rest : Tokens} → IsAgg c ts rest → is_star ts ≡ false
 agg_no_star a = grind arith
 
-item_no_star : {i : ItemTree} {ts rest : Tokens} → IsItem i ts rest → is_star ts ≡ false
+item_no_star : {i : ItemTree} {ts rest : Tokens} → IsSelectItem i ts rest → is_star ts ≡ false
 item_no_star (unnamed (an_expression e)) = (expr_begins e).0
 item_no_star (named (an_expression e)) = (expr_begins e).0
 item_no_star (unnamed (an_agg c)) = agg_no_star c
 item_no_star (named (an_agg c)) = agg_no_star c
 
 no_star : {is : List ItemTree} {ts rest : Tokens}
-    → AreListed IsItem (token.Sign sign.Comma) is ts rest → is_star ts ≡ false
+    → AreListed IsSelectItem (token.Sign sign.Comma) is ts rest → is_star ts ≡ false
 no_star a = grind (arith, item_no_star)
 
 selection_found : {s : Selection} {ts rest : Tokens} → IsSelection s ts rest → (n : ℕ) → length ts
@@ -132,7 +132,7 @@ selection_found : {s : Selection} {ts rest : Tokens} → IsSelection s ts rest �
 selection_found all_columns n l ends none = refl
 selection_found (some_items {ts = ts} {rest = rest} items) n l ends none =
     listed_at ts (no_star items)
-    ∙ ap (option_map (λ is. (listed is.0, is.1))) (list_found IsItem between.Comma (item_at n)
+    ∙ ap (option_map (λ is. (listed is.0, is.1))) (list_found IsSelectItem between.Comma (item_at n)
     (λ x ts rest i. item_shorter i) n EndsItem
     (λ ts. record { name = refl; joint = refl; alias = refl })
     (λ x ts rest is l ends. item_found n is l ends) items (length ts) l (omega arith) ends none)
@@ -153,7 +153,7 @@ named_found : (name : List ℕ) (rest : Tokens) → ends_name rest ≡ true
     → table_named name rest ≡ Some (table.Named name, rest)
 named_found name rest h = grind arith
 
-table_found : {t : TableRef} {ts rest : Tokens} → IsTable t ts rest → ends_name rest ≡ true
+table_found : {t : TableRef} {ts rest : Tokens} → IsTableRef t ts rest → ends_name rest ≡ true
     → table_at ts ≡ Some (t, rest)
 table_found (named_table {name = name} {rest = rest}) h = named_found name rest h
 table_found (numbers_table {n = n} {rest = rest}) h = numbers_named n rest
@@ -210,11 +210,11 @@ ends : (rest : Tokens) → rank rest ≤ 6 → Ends rest
 ends rest h = grind (arith, simple)
 
 -- the clause is read so, and begins with a keyword of its own or where the rest does
-abbrev IsFound : {A : Type 0} → Reading A → A → Tokens → Tokens → ℕ → Type 0
+abbrev IsFound : {A : Type 0} → Parse A → A → Tokens → Tokens → ℕ → Type 0
 IsFound read a ts rest k = (read ≡ Some (a, rest)) × (rank ts ≤ k)
 
 -- no clause of a mark stands where a later one begins
-not_behind : (m : Mark) (k : ℕ) (rest : Tokens) → ((ts : Tokens) → rank (mark m ∷ ts) ≡ suc k)
+not_behind : (m : Separator) (k : ℕ) (rest : Tokens) → ((ts : Tokens) → rank (mark m ∷ ts) ≡ suc k)
     → rank rest ≤ k → behind m rest ≡ None
 not_behind m k rest at low = go (behind m rest) refl
   where
@@ -224,8 +224,8 @@ not_behind m k rest at low = go (behind m rest) refl
         let is = ap rank (behind_is m rest ts e) in absurd (omega (arith, at ts, is, low))
 
 -- a clause whose mark has the rank behind k, where what follows has at most that
-module _ {A X : Type 0} (m : Mark) (nothing : A) (some : X → A)
-    (Is : X → Tokens → Tokens → Type 0) (read : Tokens → Reading X) where
+module _ {A X : Type 0} (m : Separator) (nothing : A) (some : X → A)
+    (Is : X → Tokens → Tokens → Type 0) (read : Tokens → Parse X) where
   clause_found : (k n : ℕ) (rest : Tokens) → ((ts : Tokens) → rank (mark m ∷ ts) ≡ suc k)
       → rank rest ≤ k → ((x : X) (ts : Tokens) → Is x ts rest → length ts ≤ n
       → read ts ≡ Some (x, rest)) → {a : A} {ts : Tokens}
@@ -239,7 +239,7 @@ module _ {A X : Type 0} (m : Mark) (nothing : A) (some : X → A)
     omega (arith, at ts),
   )
 
-by_found : {X : Type 0} (Is : X → Tokens → Tokens → Type 0) (read : Tokens → Reading X)
+by_found : {X : Type 0} (Is : X → Tokens → Tokens → Type 0) (read : Tokens → Parse X)
     → ((x : X) (ts rest : Tokens) → Is x ts rest → IsShorter rest ts) → (Ends : Tokens → Type 0)
     → ((ts : Tokens) → Ends (mark between.Comma ∷ ts))
     → ((x : X) (ts rest : Tokens) → Is x ts rest → Ends rest → read ts ≡ Some (x, rest))
@@ -255,7 +255,7 @@ no_offset rest h = grind arith
 span_found : {s : Span} {ts rest : Tokens} → IsSpan s ts rest → rank rest ≤ 0
     → span_at ts ≡ Some (s, rest)
 span_found (span_of {n = n} {rest = rest} no_clause) h = ap (span_with n)
-    (ap (clause_behind 0 (λ skip. skip) number_at rest) (no_offset rest h))
+    (ap (clause_behind 0 (λ skip. skip) number_parse rest) (no_offset rest h))
 span_found (span_of (clause_of number_of)) h = refl
 
 limit_found : {l : Option Span} {ts rest : Tokens} → IsLimit l ts rest → rank rest ≤ 0
@@ -360,7 +360,7 @@ query_found (select_query items (source_of is join filter) (shaping_of keys havi
     rw (s, table_found is e.name, js.0, fs.0, ks.0, hs.0, os.0, ls.0) refl
 
 abbrev ended : QueryTree → Tokens → Option QueryTree
-ended q rest = cond (is_end rest) (Some q) None
+ended q rest = cond (is_text_end rest) (Some q) None
 
 pub text_found : {q : QueryTree} {ts : Tokens} → IsText q ts → (n : ℕ) → length ts ≤ n
     → text_query n ts ≡ Some q
@@ -371,12 +371,12 @@ text_found (with_semicolon q) n l = ap (λ r. reads r ended) (query_found q n l 
 
 -- ---- lists
 
-module _ {X : Type 0} (Is : X → Tokens → Tokens → Type 0) (s : Mark)
-    (read : Tokens → Reading X) (each : (ts : Tokens) → IfSome (read ts) (λ r. Is r.0 ts r.1)) where
+module _ {X : Type 0} (Is : X → Tokens → Tokens → Type 0) (s : Separator)
+    (read : Tokens → Parse X) (each : (ts : Tokens) → IfSome (read ts) (λ r. Is r.0 ts r.1)) where
   abbrev Listed : Tokens → List X × Tokens → Type 0
   Listed ts r = AreListed Is (mark s) r.0 ts r.1
 
-  behind_spelled : (more : Tokens → Reading (List X))
+  behind_spelled : (more : Tokens → Parse (List X))
       → ((ts : Tokens) → IfSome (more ts) (Listed ts)) → (x : X) (ts mid : Tokens) → Is x ts mid
       → (o : Option Tokens) → behind s mid ≡ o → IfSome (list_behind more x mid o) (Listed ts)
   behind_spelled more h x ts mid is o e = grind (arith, map_some, behind_is, the_last, and_more)
@@ -393,8 +393,8 @@ plain_what_spelled n ts =
     grind (arith, part_spelled n clause.OfRows 5 ts (omega arith), an_expression)
 
 called_spelled : (n : ℕ) (ts : Tokens) (c : AggOp × Tokens) → call_front ts ≡ Some c
-    → IfSome (call_at (part_at n) c.0 c.1) (λ r. IsAgg r.0 ts r.1)
-called_spelled n (token.Name w ∷ ts) c e = word_called (part_at n) (part_spelled n) w ts c e
+    → IfSome (call_at (term_at n) c.0 c.1) (λ r. IsAgg r.0 ts r.1)
+called_spelled n (token.Name w ∷ ts) c e = word_called (term_at n) (part_spelled n) w ts c e
 called_spelled n _ c e = absurd cc
 
 what_spelled : (n : ℕ) (ts : Tokens) → IfSome (what_at n ts) (λ r. IsWhat r.0 ts r.1)
@@ -404,43 +404,46 @@ what_spelled n ts = go (call_front ts) refl
         → IfSome (what_by n ts o) (λ r. IsWhat r.0 ts r.1)
     go None e = plain_what_spelled n ts
     go (Some c) e =
-        map_some _ _ _ (call_at (part_at n) c.0 c.1) (called_spelled n ts c e) (λ r is. an_agg is)
+        map_some _ _ _ (call_at (term_at n) c.0 c.1) (called_spelled n ts c e) (λ r is. an_agg is)
 
 name_spelled : (w : ItemWhat) (ts mid : Tokens) → IsWhat w ts (token.Keyword keyword.As ∷ mid)
-    → IfSome (with_alias w (alias_at (token.Keyword keyword.As ∷ mid))) (λ r. IsItem r.0 ts r.1)
+    → IfSome (with_alias w (alias_at (token.Keyword keyword.As ∷ mid)))
+    (λ r. IsSelectItem r.0 ts r.1)
 name_spelled w ts mid is = grind (arith, named)
 
 alias_spelled : (w : ItemWhat) (ts mid : Tokens) → IsWhat w ts mid
-    → IfSome (with_alias w (alias_at mid)) (λ r. IsItem r.0 ts r.1)
+    → IfSome (with_alias w (alias_at mid)) (λ r. IsSelectItem r.0 ts r.1)
 alias_spelled w ts mid is = grind (arith, name_spelled, unnamed)
 
-item_spelled : (n : ℕ) (ts : Tokens) → IfSome (item_at n ts) (λ r. IsItem r.0 ts r.1)
+item_spelled : (n : ℕ) (ts : Tokens) → IfSome (item_at n ts) (λ r. IsSelectItem r.0 ts r.1)
 item_spelled n ts = grind (arith, bind, alias_spelled, what_spelled n ts)
 
 selection_spelled : (n : ℕ) (ts : Tokens) → IfSome (selection_at n ts) (λ r. IsSelection r.0 ts r.1)
 selection_spelled n (token.Sign sign.Star ∷ ts) = all_columns
 selection_spelled n ts =
-    map_some _ _ _ (items_at n ts) (list_spelled IsItem between.Comma (item_at n) (item_spelled n)
+    map_some _ _ _ (items_at n ts)
+    (list_spelled IsSelectItem between.Comma (item_at n) (item_spelled n)
     (length ts) ts) (λ r are. some_items are)
 
 -- ---- tables and joins
 
 numbers_spelled : (name : List ℕ) (ts : Tokens) → name ≡ codes "numbers"
-    → IfSome (count_behind ts) (λ r. IsTable r.0 (token.Name name ∷ token.Sign sign.Open ∷ ts) r.1)
+    → IfSome (count_behind ts)
+    (λ r. IsTableRef r.0 (token.Name name ∷ token.Sign sign.Open ∷ ts) r.1)
 numbers_spelled name ts e = grind (arith, numbers_table)
 
 named_spelled : (name : List ℕ) (ts : Tokens)
-    → IfSome (table_named name ts) (λ r. IsTable r.0 (token.Name name ∷ ts) r.1)
+    → IfSome (table_named name ts) (λ r. IsTableRef r.0 (token.Name name ∷ ts) r.1)
 named_spelled name (token.Sign sign.Open ∷ ts) = go (bytes_eq name (codes "numbers")) refl
   where
     go : (b : Bool) → bytes_eq name (codes "numbers") ≡ b
         → IfSome (cond b (count_behind ts) None)
-        (λ r. IsTable r.0 (token.Name name ∷ token.Sign sign.Open ∷ ts) r.1)
+        (λ r. IsTableRef r.0 (token.Name name ∷ token.Sign sign.Open ∷ ts) r.1)
     go true e = numbers_spelled name ts ((bytes_eq-Decides name (codes "numbers")).0 e)
     go false e = tt
 named_spelled name _ = named_table
 
-table_spelled : (ts : Tokens) → IfSome (table_at ts) (λ r. IsTable r.0 ts r.1)
+table_spelled : (ts : Tokens) → IfSome (table_at ts) (λ r. IsTableRef r.0 ts r.1)
 table_spelled ts = grind (arith, named_spelled)
 
 column_spelled : (ts : Tokens) → IfSome (column_ref_at ts) (λ r. IsColumn r.0 ts r.1)
@@ -455,7 +458,7 @@ right_spelled left ts _ is = tt
 pair_spelled : (ts : Tokens) → IfSome (pair_at ts) (λ r. IsPair r.0 ts r.1)
 pair_spelled ts = grind (arith, bind, right_spelled, column_spelled ts)
 
-on_spelled : (t : TableRef) (ts mid : Tokens) → IsTable t ts mid
+on_spelled : (t : TableRef) (ts mid : Tokens) → IsTableRef t ts mid
     → IfSome (on_at t mid) (λ r. IsJoined r.0 (token.Keyword keyword.Join ∷ ts) r.1)
 on_spelled t ts (token.Keyword keyword.On ∷ mid) is =
     grind (arith, list_spelled IsPair between.And pair_at pair_spelled (length mid) mid, table_on)
@@ -485,8 +488,8 @@ cond_spelled n k ts =
 
 -- ---- clauses
 
-module _ {A X : Type 0} (m : Mark) (nothing : A) (some : X → A)
-    (Is : X → Tokens → Tokens → Type 0) (read : Tokens → Reading X)
+module _ {A X : Type 0} (m : Separator) (nothing : A) (some : X → A)
+    (Is : X → Tokens → Tokens → Type 0) (read : Tokens → Parse X)
     (each : (ts : Tokens) → IfSome (read ts) (λ r. Is r.0 ts r.1)) where
   abbrev IsSpelled : Tokens → A × Tokens → Type 0
   IsSpelled ts r = IsClause (mark m) nothing some Is r.0 ts r.1
@@ -502,7 +505,7 @@ module _ {A X : Type 0} (m : Mark) (nothing : A) (some : X → A)
           (IsSpelled (mark m ∷ rest)) (λ r. (some r.0, r.1)) (read rest) (each rest)
           (λ r is. clause_of is))
 
-by_spelled : {X : Type 0} (Is : X → Tokens → Tokens → Type 0) (read : Tokens → Reading X)
+by_spelled : {X : Type 0} (Is : X → Tokens → Tokens → Type 0) (read : Tokens → Parse X)
     → ((ts : Tokens) → IfSome (read ts) (λ r. Is r.0 ts r.1)) → (ts : Tokens)
     → IfSome (by_at read ts) (λ r. AreBy Is r.0 ts r.1)
 by_spelled Is read each (token.Keyword keyword.By ∷ ts) =
@@ -537,14 +540,14 @@ order_spelled ts =
     clause_spelled between.Order [] (λ keys. keys) (AreBy IsOrderKey) (by_at order_key_at)
     (by_spelled IsOrderKey order_key_at order_key_spelled) ts
 
-number_spelled : (ts : Tokens) → IfSome (number_at ts) (λ r. IsNumber r.0 ts r.1)
+number_spelled : (ts : Tokens) → IfSome (number_parse ts) (λ r. IsNumber r.0 ts r.1)
 number_spelled (token.Number n ∷ ts) = number_of
 number_spelled _ = tt
 
 span_spelled : (ts : Tokens) → IfSome (span_at ts) (λ r. IsSpan r.0 ts r.1)
 span_spelled (token.Number n ∷ ts) =
     map_some _ _ _ (offset_at ts)
-    (clause_spelled between.Offset 0 (λ skip. skip) IsNumber number_at number_spelled ts)
+    (clause_spelled between.Offset 0 (λ skip. skip) IsNumber number_parse number_spelled ts)
     (λ m is. span_of is)
 span_spelled _ = tt
 
@@ -554,7 +557,7 @@ limit_spelled ts = clause_spelled between.Limit None Some IsSpan span_at span_sp
 -- ---- queries
 
 data IsFrom : TableRef → Tokens → Tokens → Type 0 where
-  from_table : {t : TableRef} {ts rest : Tokens} → IsTable t ts rest
+  from_table : {t : TableRef} {ts rest : Tokens} → IsTableRef t ts rest
       → IsFrom t (token.Keyword keyword.From ∷ ts) rest
 
 from_spelled : (ts : Tokens) → IfSome (from_at ts) (λ r. IsFrom r.0 ts r.1)
@@ -575,7 +578,8 @@ query_spelled n (token.Keyword keyword.Select ∷ ts) =
     bind _ _ _ (join_at t.1) (join_spelled t.1) (λ j join.
     bind _ _ _ (filter_at n j.1) (filter_spelled n j.1) (λ f filter.
     let query = query_of s.0 t.0 j.0 f.0 in
-    let Spelled = λ (e : Ending × Tokens). IsQuery (query e.0) (token.Keyword keyword.Select ∷ ts)
+    let Spelled = λ (e : QueryTail × Tokens). IsQuery (query e.0)
+    (token.Keyword keyword.Select ∷ ts)
     e.1 in
     map_some Spelled (λ q. IsQuery q.0 (token.Keyword keyword.Select ∷ ts) q.1)
     (λ e. (query e.0, e.1)) (ending_at n f.1)

@@ -1,5 +1,5 @@
 -- What the reading of a text's tokens says of the text.
-use Rattle.sql_text.proofs.Imports.{◌≡◌, ℕ, ◌≤◌, false, List, length, Some, None, sym, ◌∙◌, arith, nat_lt, same_Some, none-some, Query, tokens_of, query_tree, Tokens, IsText, Spells, ParseError, Fails, text_query, token_refusal, early_refusal, IsRefused, IsReadFrom, refusal_of}
+use Rattle.sql_text.proofs.Imports.{◌≡◌, ℕ, ◌≤◌, false, List, length, Some, None, sym, ◌∙◌, arith, nat_lt, same_Some, none-some, Query, tokens_of, query_tree, Tokens, IsText, Spells, ParseError, ParseFails, text_query, token_refusal, early_refusal, IsRefused, IsReadFrom, parse_refusal_of}
 use Rattle.sql_text.proofs.QueryTexts.{text_found, text_spelled}
 
 -- the tokens of a spelled text are spelled
@@ -27,7 +27,7 @@ is_read q text ts short are none read =
 
 pub is_refused : (e : ParseError) (text : List ℕ) (ts : Tokens) → length text ≤ 65536
     → tokens_of text ≡ Some ts → token_refusal ts ≡ None
-    → Fails e (text_query (length ts) ts) → IsRefused (refusal_of e) text
+    → ParseFails e (text_query (length ts) ts) → IsRefused (parse_refusal_of e) text
 is_refused e text ts short are none fails = grind (arith, early_is, none-some, read_at)
 
 pub one_tree : (text : List ℕ) (p q : Query) → Spells p text → Spells q text

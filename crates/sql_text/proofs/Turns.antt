@@ -1,5 +1,5 @@
 -- One turn of the reading of parts, and when it ends.
-use Rattle.sql_text.proofs.Imports.{◌≡◌, ℕ, zero, suc, ◌-◌, ◌<◌, ◌≤◌, Bool, true, false, List, ◌∷◌, length, Option, Some, None, option_and_then, refl, ap, ◌∙◌, arith, Token, BinaryOperator, ParseError, Fails, Clause, Parsed, Reads, joint_of, level, if_level, next_joint, combined, first_part, turn_of, joined, part_at}
+use Rattle.sql_text.proofs.Imports.{◌≡◌, ℕ, zero, suc, ◌-◌, ◌<◌, ◌≤◌, Bool, true, false, List, ◌∷◌, length, Option, Some, None, option_and_then, refl, ap, ◌∙◌, arith, Token, BinaryOperator, ParseError, ParseFails, Clause, Parsed, OperandParser, joint_of, level, if_level, next_joint, binary_of, first_term, turn_of, joined, term_at}
 use Rattle.sql_grammar.specs.declared.Token.TheVariants as token
 use Rattle.sql_grammar.specs.declared.Sign.TheVariants as sign
 
@@ -22,8 +22,8 @@ pub if_level-none : (least : ℕ) (ts : List Token) (j : BinaryOperator) → lev
 if_level-none least ts j h = grind arith
 
 -- no binary operator binds tighter than a product
-pub loose : (ts : List Token) → next_joint 7 ts ≡ None
-loose ts = grind (arith, level_below)
+pub none_above_products : (ts : List Token) → next_joint 7 ts ≡ None
+none_above_products ts = grind (arith, level_below)
 
 -- where no binary operator binds so tightly, none binds more tightly
 pub tighter : (p q : ℕ) (ts : List Token) → p ≤ q → next_joint p ts ≡ None → next_joint q ts ≡ None
@@ -33,38 +33,41 @@ tighter p q ts h none = grind arith
 pub record Goes (k : Clause) (n least : ℕ) (v : Parsed) (ts rest : List Token) : Type 0 where
   pub turns : ℕ
   pub enough : length rest < turns
-  pub goes : part_at (suc n) k least ts ≡ joined k (part_at n) least turns v rest
+  pub goes : term_at (suc n) k least ts ≡ joined k (term_at n) least turns v rest
 
 pub from_first : {k : Clause} {n least : ℕ} {v : Parsed} {ts rest : List Token}
-    → first_part k (part_at n) ts ≡ Some (v, rest) → Goes k n least v ts rest
-unfolding part_at
+    → first_term k (term_at n) ts ≡ Some (v, rest) → Goes k n least v ts rest
+unfolding term_at
 from_first {k = k} {n = n} {least = least} {rest = rest} h = grind arith
 
-pub end_of_turns : (k : Clause) (right : Reads) (least turns : ℕ) (v : Parsed) (ts : List Token)
-    → 0 < turns → next_joint least ts ≡ None → joined k right least turns v ts ≡ Some (v, ts)
+pub end_of_turns : (k : Clause) (right : OperandParser) (least turns : ℕ) (v : Parsed)
+    (ts : List Token) → 0 < turns → next_joint least ts ≡ None → joined k right least turns v ts
+    ≡ Some (v, ts)
 unfolding joined
 end_of_turns k right least turns v ts h none = grind arith
 
-turned_by : (k : Clause) (right : Reads) (j : BinaryOperator) (v w u : Parsed)
+turned_by : (k : Clause) (right : OperandParser) (j : BinaryOperator) (v w u : Parsed)
     (mid rest : List Token) → right k (suc (level j)) mid ≡ Some (w, rest)
-    → combined k j v w ≡ Some u → turn_of k right j v mid ≡ Some (u, rest)
+    → binary_of k j v w ≡ Some u → turn_of k right j v mid ≡ Some (u, rest)
 turned_by k right j v w u mid rest read join = grind arith
 
-pub turn : (k : Clause) (right : Reads) (least n turns : ℕ) (j : BinaryOperator) (v u : Parsed)
+pub turn : (k : Clause) (right : OperandParser) (least n turns : ℕ) (j : BinaryOperator)
+    (v u : Parsed)
     (ts mid rest : List Token) → n ≡ suc turns → next_joint least ts ≡ Some (j, mid)
     → turn_of k right j v mid ≡ Some (u, rest)
     → joined k right least n v ts ≡ joined k right least turns u rest
 unfolding joined
 turn k right least n turns j v u ts mid rest is next turned = grind arith
 
-pub no_turn : (k : Clause) (right : Reads) (least turns : ℕ) (j : BinaryOperator) (v : Parsed)
+pub no_turn : (k : Clause) (right : OperandParser) (least turns : ℕ) (j : BinaryOperator)
+    (v : Parsed)
     (ts mid : List Token) → 0 < turns → next_joint least ts ≡ Some (j, mid)
     → turn_of k right j v mid ≡ None → joined k right least turns v ts ≡ None
 unfolding joined
 no_turn k right least turns j v ts mid h next none = grind arith
 
-pub no_turns : (k : Clause) (right : Reads) (least n : ℕ) (v : Parsed) (ts : List Token) → n ≡ 0
-    → joined k right least n v ts ≡ None
+pub no_turns : (k : Clause) (right : OperandParser) (least n : ℕ) (v : Parsed) (ts : List Token) → n
+    ≡ 0 → joined k right least n v ts ≡ None
 unfolding joined
 no_turns k right least n v ts is = ap (λ n. joined k right least n v ts) is
 
@@ -76,43 +79,43 @@ some_turns (suc k) h = (k, refl)
 pub deeper : {k : Clause} (n : ℕ) {least : ℕ} {v : Parsed} {ts rest : List Token}
     → length ts ≤ n → length rest < length ts
     → ((m : ℕ) → length ts ≤ suc m → Goes k m least v ts rest) → next_joint least rest ≡ None
-    → part_at n k least ts ≡ Some (v, rest)
+    → term_at n k least ts ≡ Some (v, rest)
 deeper zero h shorter goes none = absurd (omega arith)
 deeper {k = k} (suc m) {least = least} {v = v} {rest = rest} h shorter goes none =
     let g = goes m h in
-    g.goes ∙ end_of_turns k (part_at m) least g.turns v rest (omega (arith, g.enough)) none
+    g.goes ∙ end_of_turns k (term_at m) least g.turns v rest (omega (arith, g.enough)) none
 
 -- The part at the left, and what the binary operator behind it joins to it.
 pub onward : {k : Clause} {n least : ℕ} (j : BinaryOperator) {t : Token} {v w u : Parsed}
     {ts mid rest : List Token} → Goes k n least v ts (t ∷ mid) → joint_of t ≡ Some j
     → least ≤ level j → length (t ∷ mid) < length ts → length ts ≤ suc n → length rest < length mid
     → ((m : ℕ) → length mid ≤ suc m → Goes k m (suc (level j)) w mid rest)
-    → next_joint (suc (level j)) rest ≡ None → combined k j v w ≡ Some u → Goes k n least u ts rest
+    → next_joint (suc (level j)) rest ≡ None → binary_of k j v w ≡ Some u → Goes k n least u ts rest
 onward {k = k} {n = n} {least = least} j {t = t} {v = v} {w = w} {u = u} {mid = mid} {rest = rest}
     g is low within enough shorter right none join =
     let s = some_turns g.turns (omega (arith, g.enough)) in
     let next = ap (if_level least mid) is ∙ if_level-found least mid j low in
-    let read : part_at n k (suc (level j)) mid ≡ Some (w, rest) =
+    let read : term_at n k (suc (level j)) mid ≡ Some (w, rest) =
     deeper n (omega arith) shorter right none in
     record {
       turns = s.0;
       enough = omega (arith, g.enough, s.1);
-      goes = g.goes ∙ turn k (part_at n) least g.turns s.0 j v u (t ∷ mid) mid rest s.1 next
-          (turned_by k (part_at n) j v w u mid rest read join);
+      goes = g.goes ∙ turn k (term_at n) least g.turns s.0 j v u (t ∷ mid) mid rest s.1 next
+          (turned_by k (term_at n) j v w u mid rest read join);
     }
 
-pub no_depth : (k : Clause) (least : ℕ) (ts : List Token) → part_at 0 k least ts ≡ None
-unfolding part_at
+pub no_depth : (k : Clause) (least : ℕ) (ts : List Token) → term_at 0 k least ts ≡ None
+unfolding term_at
 no_depth k least ts = refl
 
 pub part_goes : (k : Clause) (depth least : ℕ) (ts : List Token) → 0 < depth
-    → part_at depth k least ts ≡ option_and_then (λ p. joined k (part_at (depth - 1)) least
-    (suc (length p.1)) p.0 p.1) (first_part k (part_at (depth - 1)) ts)
-unfolding part_at
+    → term_at depth k least ts ≡ option_and_then (λ p. joined k (term_at (depth - 1)) least
+    (suc (length p.1)) p.0 p.1) (first_term k (term_at (depth - 1)) ts)
+unfolding term_at
 part_goes k zero least ts h = absurd (omega arith)
 part_goes k a least ts h = grind arith
 
 -- a fault inside is a fault of the whole
-pub fault_goes : {Y W : Type 0} (e : ParseError) (read : Option Y) (outer : Option W) → Fails e read
-    → (read ≡ None → outer ≡ None) → Fails e outer
+pub fault_goes : {Y W : Type 0} (e : ParseError) (read : Option Y) (outer : Option W)
+    → ParseFails e read → (read ≡ None → outer ≡ None) → ParseFails e outer
 fault_goes e read outer h k = grind arith

@@ -4,11 +4,11 @@ use Rattle.sql_text.specs.declared.parse_error.ParseError.{ParseError}
 use Rattle.sql_text.specs.declared.parse_error.ParseError.TheVariants as error
 
 -- Where nothing is read the answer is Syntax, and where memory runs out it is Memory.
-abbrev pub Fails : {Y : Type 0} → ParseError → Option Y → Type 0
-Fails error.Syntax read = read ≡ None
-Fails error.Memory read = Unit {0}
+abbrev pub ParseFails : {Y : Type 0} → ParseError → Option Y → Type 0
+ParseFails error.Syntax read = read ≡ None
+ParseFails error.Memory read = Unit {0}
 
 -- what is read, seen by view, is answered
-abbrev pub Gives : {X Y : Type 0} → (X → Y) → Result X ParseError → Option Y → Type 0
-Gives view (Ok x) read = read ≡ Some (view x)
-Gives view (Err e) read = Fails e read
+abbrev pub ParseGives : {X Y : Type 0} → (X → Y) → Result X ParseError → Option Y → Type 0
+ParseGives view (Ok x) read = read ≡ Some (view x)
+ParseGives view (Err e) read = ParseFails e read

@@ -57,9 +57,9 @@ IsRefused refusal.NumberTooLarge text = early_refusal text ≡ Some refusal.Numb
 IsRefused refusal.TooComplex text = early_refusal text ≡ Some refusal.TooComplex
 IsRefused refusal.Memory text = Unit {0}
 
-abbrev pub refusal_of : ParseError → ParseRefusal
-refusal_of error.Syntax = refusal.Syntax
-refusal_of error.Memory = refusal.Memory
+abbrev pub parse_refusal_of : ParseError → ParseRefusal
+parse_refusal_of error.Syntax = refusal.Syntax
+parse_refusal_of error.Memory = refusal.Memory
 
 -- a query that is read from a text
 pub record IsReadFrom (q : Query) (text : List ℕ) : Type 0 where

@@ -4,10 +4,10 @@
 mod limits;
 mod lists;
 mod parse_error;
-mod part;
 mod queries;
 mod scan;
 mod tables;
+mod term;
 mod texts;
 
 pub use limits::{MAX_OPERATORS, MAX_TEXT, ParseRefusal};

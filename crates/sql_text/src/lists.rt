@@ -5,13 +5,13 @@ ghost use Rattle.query_model.specs.Trees.{ItemTree, item_tree, item_what, select
 ghost use Rattle.sql_grammar.specs.declared.Token.{Token as Piece};
 ghost use Rattle.query_model.specs.declared.query.ColumnRef.{ColumnRef as Column};
 ghost use Rattle.query_model.specs.declared.query.OrderKey.{OrderKey as Key};
-ghost use Rattle.sql_text.specs.Answers.{Gives};
-ghost use Rattle.sql_text.specs.Parts.{Reading};
+ghost use Rattle.sql_text.specs.Answers.{ParseGives};
+ghost use Rattle.sql_text.specs.Terms.{Parse};
 ghost use Rattle.sql_text.specs.Queries.{behind, by_at, list_at, alias_at, call_front, plain_what, what_at, item_at, selection_at, column_ref_at, direction_at, order_key_at};
 
 use crate::parse_error::ParseError;
-use crate::part::{Clause, EXPRESSION, call_at, called, part_at, plain_of};
 use crate::tables::{column_ref_at, name_at};
+use crate::term::{Clause, EXPRESSION, call_at, called, plain_of, term_at};
 use chunk_data::{Bytes, List};
 use query_model::query::{AggOp, ColumnRef, Item, ItemKind, Items, OrderKey};
 use sql_grammar::{Keyword, Sign, Token};
@@ -19,7 +19,7 @@ use std::alloc::Global;
 
 /// A token that tells what stands behind it: another element of a list, or a clause.
 #[derive(Clone, Copy)]
-pub enum Mark {
+pub enum Separator {
     Comma,
     And,
     Where,
@@ -32,19 +32,19 @@ pub enum Mark {
 }
 
 /// The tokens behind the mark, where they begin with it.
-pub fn behind(mark: Mark, tokens: &[Token]) -> Option<&[Token]>
+pub fn behind(mark: Separator, tokens: &[Token]) -> Option<&[Token]>
     ensures { option_map (λ rest. rest.now) result ≡ behind mark tokens.now }
 {
     match (mark, tokens.split_first()?) {
-        (Mark::Comma, (Token::Sign(Sign::Comma), rest)) => Some(rest),
-        (Mark::And, (Token::Keyword(Keyword::And), rest)) => Some(rest),
-        (Mark::Where, (Token::Keyword(Keyword::Where), rest)) => Some(rest),
-        (Mark::Group, (Token::Keyword(Keyword::Group), rest)) => Some(rest),
-        (Mark::By, (Token::Keyword(Keyword::By), rest)) => Some(rest),
-        (Mark::Having, (Token::Keyword(Keyword::Having), rest)) => Some(rest),
-        (Mark::Order, (Token::Keyword(Keyword::Order), rest)) => Some(rest),
-        (Mark::Limit, (Token::Keyword(Keyword::Limit), rest)) => Some(rest),
-        (Mark::Offset, (Token::Keyword(Keyword::Offset), rest)) => Some(rest),
+        (Separator::Comma, (Token::Sign(Sign::Comma), rest)) => Some(rest),
+        (Separator::And, (Token::Keyword(Keyword::And), rest)) => Some(rest),
+        (Separator::Where, (Token::Keyword(Keyword::Where), rest)) => Some(rest),
+        (Separator::Group, (Token::Keyword(Keyword::Group), rest)) => Some(rest),
+        (Separator::By, (Token::Keyword(Keyword::By), rest)) => Some(rest),
+        (Separator::Having, (Token::Keyword(Keyword::Having), rest)) => Some(rest),
+        (Separator::Order, (Token::Keyword(Keyword::Order), rest)) => Some(rest),
+        (Separator::Limit, (Token::Keyword(Keyword::Limit), rest)) => Some(rest),
+        (Separator::Offset, (Token::Keyword(Keyword::Offset), rest)) => Some(rest),
         _ => None,
     }
 }
@@ -58,25 +58,25 @@ pub trait Listed: Drop {
 
     ghost trees: { Seq Self → Seq Tree };
 
-    ghost reading: { ℕ → Seq Piece → Reading Tree };
+    ghost reading: { ℕ → Seq Piece → Parse Tree };
 
-    /// The element at the front, and the tokens behind it. `depth` is that of `part_at`.
+    /// The element at the front, and the tokens behind it. `depth` is that of `term_at`.
     fn read(alloc: Global, tokens: &[Token], depth: usize) -> Result<(Self, &[Token]), ParseError>
-        ensures { Gives (λ p. (tree p.0, p.1.now)) result (reading depth tokens.now) };
+        ensures { ParseGives (λ p. (tree p.0, p.1.now)) result (reading depth tokens.now) };
 
     ghost first: { trees [] ≡ [] };
 
     ghost more: { (xs : Seq Self) (x : Self) → trees (xs ++ x ∷ []) ≡ trees xs ++ tree x ∷ [] };
 }
 
-/// The list at the front, and the tokens behind it. `depth` is that of `part_at`.
+/// The list at the front, and the tokens behind it. `depth` is that of `term_at`.
 pub fn list_at<T: Listed>(
     alloc: Global,
-    separator: Mark,
+    separator: Separator,
     tokens: &[Token],
     depth: usize,
 ) -> Result<(List<T>, &[Token]), ParseError>
-    ensures { Gives (λ p. (T.trees p.0, p.1.now)) result
+    ensures { ParseGives (λ p. (T.trees p.0, p.1.now)) result
         (list_at (T.reading depth) separator (length tokens.now) tokens.now) }
 {
     let mut elements = Vec::new(alloc);
@@ -98,16 +98,16 @@ pub fn list_at<T: Listed>(
 
 /// The list behind BY, and the tokens behind that.
 pub fn by_at<T: Listed>(alloc: Global, tokens: &[Token]) -> Result<(List<T>, &[Token]), ParseError>
-    ensures { Gives (λ p. (T.trees p.0, p.1.now)) result (by_at (T.reading 0) tokens.now) }
+    ensures { ParseGives (λ p. (T.trees p.0, p.1.now)) result (by_at (T.reading 0) tokens.now) }
 {
-    match behind(Mark::By, tokens) {
-        Some(rest) => list_at(alloc, Mark::Comma, rest, 0),
+    match behind(Separator::By, tokens) {
+        Some(rest) => list_at(alloc, Separator::Comma, rest, 0),
         None => Err(ParseError::Syntax),
     }
 }
 
 fn alias_at(tokens: &[Token]) -> Result<(Option<Bytes>, &[Token]), ParseError>
-    ensures { Gives (λ p. (p.0, p.1.now)) result (alias_at tokens.now) }
+    ensures { ParseGives (λ p. (p.0, p.1.now)) result (alias_at tokens.now) }
 {
     match tokens.split_first() {
         Some((Token::Keyword(Keyword::As), rest)) => {
@@ -133,9 +133,9 @@ fn plain_what(
     tokens: &[Token],
     depth: usize,
 ) -> Result<(ItemKind, &[Token]), ParseError>
-    ensures { Gives (λ p. (item_what p.0, p.1.now)) result (plain_what depth tokens.now) }
+    ensures { ParseGives (λ p. (item_what p.0, p.1.now)) result (plain_what depth tokens.now) }
 {
-    let (part, rest) = part_at(alloc, Clause::OfRows, EXPRESSION, tokens, depth)?;
+    let (part, rest) = term_at(alloc, Clause::OfRows, EXPRESSION, tokens, depth)?;
     let expr = plain_of(part)?;
     Ok((ItemKind::Plain(Box::into_inner(expr)), rest))
 }
@@ -145,7 +145,7 @@ fn what_at(
     tokens: &[Token],
     depth: usize,
 ) -> Result<(ItemKind, &[Token]), ParseError>
-    ensures { Gives (λ p. (item_what p.0, p.1.now)) result (what_at depth tokens.now) }
+    ensures { ParseGives (λ p. (item_what p.0, p.1.now)) result (what_at depth tokens.now) }
 {
     match call_front(tokens) {
         Some((op, rest)) => {
@@ -176,18 +176,18 @@ impl Listed for Item {
     }
 }
 
-/// The items of SELECT. `depth` is that of `part_at`.
+/// The items of SELECT. `depth` is that of `term_at`.
 pub fn selection_at(
     alloc: Global,
     tokens: &[Token],
     depth: usize,
 ) -> Result<(Items, &[Token]), ParseError>
-    ensures { Gives (λ p. (selection p.0, p.1.now)) result (selection_at depth tokens.now) }
+    ensures { ParseGives (λ p. (selection p.0, p.1.now)) result (selection_at depth tokens.now) }
 {
     match tokens.split_first() {
         Some((Token::Sign(Sign::Star), rest)) => Ok((Items::Star, rest)),
         _ => {
-            let (items, rest) = list_at(alloc, Mark::Comma, tokens, depth)?;
+            let (items, rest) = list_at(alloc, Separator::Comma, tokens, depth)?;
             Ok((Items::Listed(items), rest))
         }
     }

@@ -2,20 +2,20 @@
 ghost use Rattle.std.specs.Prelude.{◌≡◌, Some, None, option_map, OnOk, IfOk};
 ghost use Rattle.query_model.specs.Formulas.{cond_form};
 ghost use Rattle.query_model.specs.Trees.{query_tree, selection};
-ghost use Rattle.sql_text.specs.Answers.{Gives};
-ghost use Rattle.sql_text.specs.Queries.{join_at, condition_at, filter_at, having_at, keys_at, order_at, number_at, offset_at, span_at, limit_at, ending_at, shaped, after_select, query_at};
+ghost use Rattle.sql_text.specs.Answers.{ParseGives};
+ghost use Rattle.sql_text.specs.Queries.{join_at, condition_at, filter_at, having_at, keys_at, order_at, number_parse, offset_at, span_at, limit_at, ending_at, shaped, after_select, query_at};
 
-use crate::lists::{Mark, behind, by_at, selection_at};
+use crate::lists::{Separator, behind, by_at, selection_at};
 use crate::parse_error::{ParseError, next_token};
-use crate::part::{CONDITION, Clause, condition_of, part_at};
 use crate::tables::{from_at, joined_table_at};
+use crate::term::{CONDITION, Clause, condition_of, term_at};
 use chunk_data::List;
 use query_model::query::{ColumnRef, CondOf, Items, Join, OrderKey, Query, Span, TableRef};
 use sql_grammar::{Keyword, Token};
 use std::alloc::Global;
 
 fn join_at(alloc: Global, tokens: &[Token]) -> Result<(Option<Join>, &[Token]), ParseError>
-    ensures { Gives (λ p. (p.0, p.1.now)) result (join_at tokens.now) }
+    ensures { ParseGives (λ p. (p.0, p.1.now)) result (join_at tokens.now) }
 {
     match tokens {
         [Token::Keyword(Keyword::Join), ..] => {
@@ -42,9 +42,10 @@ fn condition_at(
     tokens: &[Token],
     depth: usize,
 ) -> Result<(CondOf<ColumnRef>, &[Token]), ParseError>
-    ensures { Gives (λ p. (cond_form p.0, p.1.now)) result (condition_at depth clause tokens.now) }
+    ensures { ParseGives (λ p. (cond_form p.0, p.1.now)) result
+        (condition_at depth clause tokens.now) }
 {
-    let (part, rest) = part_at(alloc, clause, CONDITION, tokens, depth)?;
+    let (part, rest) = term_at(alloc, clause, CONDITION, tokens, depth)?;
     Ok((Box::into_inner(condition_of(part)?), rest))
 }
 
@@ -53,9 +54,10 @@ fn filter_at(
     tokens: &[Token],
     depth: usize,
 ) -> Result<(Option<CondOf<ColumnRef>>, &[Token]), ParseError>
-    ensures { Gives (λ p. (option_map cond_form p.0, p.1.now)) result (filter_at depth tokens.now) }
+    ensures { ParseGives (λ p. (option_map cond_form p.0, p.1.now)) result
+        (filter_at depth tokens.now) }
 {
-    match behind(Mark::Where, tokens) {
+    match behind(Separator::Where, tokens) {
         Some(rest) => {
             let (condition, rest) = condition_at(alloc, Clause::OfRows, rest, depth)?;
             Ok((Some(condition), rest))
@@ -69,9 +71,10 @@ fn having_at(
     tokens: &[Token],
     depth: usize,
 ) -> Result<(Option<CondOf<ColumnRef>>, &[Token]), ParseError>
-    ensures { Gives (λ p. (option_map cond_form p.0, p.1.now)) result (having_at depth tokens.now) }
+    ensures { ParseGives (λ p. (option_map cond_form p.0, p.1.now)) result
+        (having_at depth tokens.now) }
 {
-    match behind(Mark::Having, tokens) {
+    match behind(Separator::Having, tokens) {
         Some(rest) => {
             let (condition, rest) = condition_at(alloc, Clause::OfGroups, rest, depth)?;
             Ok((Some(condition), rest))
@@ -81,9 +84,9 @@ fn having_at(
 }
 
 fn keys_at(alloc: Global, tokens: &[Token]) -> Result<(List<ColumnRef>, &[Token]), ParseError>
-    ensures { Gives (λ p. (p.0, p.1.now)) result (keys_at tokens.now) }
+    ensures { ParseGives (λ p. (p.0, p.1.now)) result (keys_at tokens.now) }
 {
-    match behind(Mark::Group, tokens) {
+    match behind(Separator::Group, tokens) {
         Some(rest) => {
             let (keys, rest) = by_at(alloc, rest)?;
             Ok((keys, rest))
@@ -93,9 +96,9 @@ fn keys_at(alloc: Global, tokens: &[Token]) -> Result<(List<ColumnRef>, &[Token]
 }
 
 fn order_at(alloc: Global, tokens: &[Token]) -> Result<(List<OrderKey>, &[Token]), ParseError>
-    ensures { Gives (λ p. (p.0, p.1.now)) result (order_at tokens.now) }
+    ensures { ParseGives (λ p. (p.0, p.1.now)) result (order_at tokens.now) }
 {
-    match behind(Mark::Order, tokens) {
+    match behind(Separator::Order, tokens) {
         Some(rest) => {
             let (keys, rest) = by_at(alloc, rest)?;
             Ok((keys, rest))
@@ -105,7 +108,7 @@ fn order_at(alloc: Global, tokens: &[Token]) -> Result<(List<OrderKey>, &[Token]
 }
 
 fn number_at(tokens: &[Token]) -> Result<(u64, &[Token]), ParseError>
-    ensures { Gives (λ p. (p.0, p.1.now)) result (number_at tokens.now) }
+    ensures { ParseGives (λ p. (p.0, p.1.now)) result (number_parse tokens.now) }
 {
     match next_token(tokens)? {
         (Token::Number(number), rest) => Ok((*number, rest)),
@@ -114,9 +117,9 @@ fn number_at(tokens: &[Token]) -> Result<(u64, &[Token]), ParseError>
 }
 
 fn offset_at(tokens: &[Token]) -> Result<(u64, &[Token]), ParseError>
-    ensures { Gives (λ p. (p.0, p.1.now)) result (offset_at tokens.now) }
+    ensures { ParseGives (λ p. (p.0, p.1.now)) result (offset_at tokens.now) }
 {
-    match behind(Mark::Offset, tokens) {
+    match behind(Separator::Offset, tokens) {
         Some(rest) => {
             let (skip, rest) = number_at(rest)?;
             Ok((skip, rest))
@@ -126,7 +129,7 @@ fn offset_at(tokens: &[Token]) -> Result<(u64, &[Token]), ParseError>
 }
 
 fn span_at(tokens: &[Token]) -> Result<(Span, &[Token]), ParseError>
-    ensures { Gives (λ p. (p.0, p.1.now)) result (span_at tokens.now) }
+    ensures { ParseGives (λ p. (p.0, p.1.now)) result (span_at tokens.now) }
 {
     let (count, rest) = number_at(tokens)?;
     let (skip, rest) = offset_at(rest)?;
@@ -134,9 +137,9 @@ fn span_at(tokens: &[Token]) -> Result<(Span, &[Token]), ParseError>
 }
 
 fn limit_at(tokens: &[Token]) -> Result<(Option<Span>, &[Token]), ParseError>
-    ensures { Gives (λ p. (p.0, p.1.now)) result (limit_at tokens.now) }
+    ensures { ParseGives (λ p. (p.0, p.1.now)) result (limit_at tokens.now) }
 {
-    match behind(Mark::Limit, tokens) {
+    match behind(Separator::Limit, tokens) {
         Some(rest) => {
             let (span, rest) = span_at(rest)?;
             Ok((Some(span), rest))
@@ -160,7 +163,7 @@ fn ending_at(
     tokens: &[Token],
     depth: usize,
 ) -> Result<(Ending, &[Token]), ParseError>
-    ensures { Gives (λ p. (
+    ensures { ParseGives (λ p. (
       (p.0.keys, option_map cond_form p.0.having, p.0.order, p.0.limit),
       p.1.now,
     )) result (ending_at depth tokens.now) }
@@ -188,7 +191,7 @@ fn shaped(
     tokens: &[Token],
     depth: usize,
 ) -> Result<(Query, &[Token]), ParseError>
-    ensures { Gives (λ p. (query_tree p.0, p.1.now)) result
+    ensures { ParseGives (λ p. (query_tree p.0, p.1.now)) result
         (shaped depth (selection items) from join (option_map cond_form filter) tokens.now) }
 {
     let (ending, rest) = ending_at(alloc, tokens, depth)?;
@@ -206,7 +209,7 @@ fn shaped(
 }
 
 fn after_select(tokens: &[Token]) -> Result<&[Token], ParseError>
-    ensures { Gives (λ rest. rest.now) result (after_select tokens.now) }
+    ensures { ParseGives (λ rest. rest.now) result (after_select tokens.now) }
 {
     match next_token(tokens)? {
         (Token::Keyword(Keyword::Select), rest) => Ok(rest),
@@ -214,13 +217,13 @@ fn after_select(tokens: &[Token]) -> Result<&[Token], ParseError>
     }
 }
 
-/// The query at the front, and the tokens behind it. `depth` is that of `part_at`.
+/// The query at the front, and the tokens behind it. `depth` is that of `term_at`.
 pub fn query_at(
     alloc: Global,
     tokens: &[Token],
     depth: usize,
 ) -> Result<(Query, &[Token]), ParseError>
-    ensures { Gives (λ p. (query_tree p.0, p.1.now)) result (query_at depth tokens.now) }
+    ensures { ParseGives (λ p. (query_tree p.0, p.1.now)) result (query_at depth tokens.now) }
 {
     let (items, rest) = selection_at(alloc, after_select(tokens)?, depth)?;
     let (from, rest) = from_at(rest)?;

@@ -4,7 +4,7 @@ ghost use Rattle.std.specs.Char.{is_ascii_digit};
 ghost use Rattle.query_model.specs.Fields.{numeral_value};
 ghost use Rattle.sql_grammar.specs.Tokens.{is_blank, is_word_byte, keyword_of, word_token, word_front, fitting, number_token, begins_with_letter, number_front, text_byte, text_end, text_at, begins_with, single_sign, less_sign, comparison_sign, text_front, sign_front, token_front, tokens_behind, tokens_of};
 ghost use Rattle.sql_grammar.specs.declared.TextPlace.TheVariants.{Middle};
-ghost use Rattle.sql_text.specs.Answers.{Gives};
+ghost use Rattle.sql_text.specs.Answers.{ParseGives};
 
 use crate::parse_error::ParseError;
 use chunk_data::Bytes;
@@ -33,7 +33,7 @@ fn word_at(bytes: &[u8]) -> &[u8]
 }
 
 fn word_token(alloc: Global, word: &[u8]) -> Result<Token, ParseError>
-    ensures { Gives (λ t. t) result (Some (word_token word.now (keyword_of word.now))) }
+    ensures { ParseGives (λ t. t) result (Some (word_token word.now (keyword_of word.now))) }
 {
     match keyword_of(word) {
         Some(keyword) => Ok(Token::Keyword(keyword)),
@@ -115,7 +115,7 @@ fn text_byte(place: TextPlace, b: u8) -> TextByte
 // The content of the string that begins behind its quote, and how many bytes it takes with its last
 // quote.
 fn text_at(alloc: Global, bytes: &[u8]) -> Result<(Bytes, usize), ParseError>
-    ensures read { Gives (λ p. p) result (text_at Middle bytes.now) }
+    ensures read { ParseGives (λ p. p) result (text_at Middle bytes.now) }
     ensures within { IfOk result (λ p. p.1 ≤ length bytes.now) }
 {
     let mut content = Vec::new(alloc);
@@ -180,14 +180,14 @@ fn comparison_sign(b: u8, more: &[u8]) -> Option<(Sign, usize)>
 }
 
 fn word_front(alloc: Global, bytes: &[u8]) -> Result<(Token, usize), ParseError>
-    ensures { Gives (λ p. p) result (Some (word_front bytes.now)) }
+    ensures { ParseGives (λ p. p) result (Some (word_front bytes.now)) }
 {
     let word = word_at(bytes);
     Ok((word_token(alloc, word)?, word.len()))
 }
 
 fn number_front(bytes: &[u8]) -> Result<(Token, usize), ParseError>
-    ensures { Gives (λ p. p) result (number_front bytes.now) }
+    ensures { ParseGives (λ p. p) result (number_front bytes.now) }
 {
     let digits = digits_at(bytes);
     if begins_with_letter(&bytes[digits.len()..]) {
@@ -197,14 +197,14 @@ fn number_front(bytes: &[u8]) -> Result<(Token, usize), ParseError>
 }
 
 fn text_front(alloc: Global, bytes: &[u8]) -> Result<(Token, usize), ParseError>
-    ensures { Gives (λ p. p) result (text_front bytes.now) }
+    ensures { ParseGives (λ p. p) result (text_front bytes.now) }
 {
     let (content, len) = text_at(alloc, bytes)?;
     Ok((Token::Text(content), len + 1))
 }
 
 fn sign_front(b: u8, more: &[u8]) -> Result<(Token, usize), ParseError>
-    ensures { Gives (λ p. p) result (sign_front b more.now) }
+    ensures { ParseGives (λ p. p) result (sign_front b more.now) }
 {
     if let Some(sign) = single_sign(b) {
         return Ok((Token::Sign(sign), 1));
@@ -223,7 +223,7 @@ fn token_at(
     bytes: &[u8],
 ) -> Result<(Token, usize), ParseError>
     requires { bytes.now ≡ first ∷ more.now }
-    ensures { Gives (λ p. p) result (token_front bytes.now) }
+    ensures { ParseGives (λ p. p) result (token_front bytes.now) }
 {
     if is_letter(first) {
         word_front(alloc, bytes)
@@ -247,7 +247,7 @@ fn next_byte(bytes: &[u8]) -> Option<(u8, &[u8])>
 /// The tokens of a text.
 #[tactic(auto, using(crate::proofs::Bytes::tokens_passed, crate::proofs::Bytes::tokens_blank, crate::proofs::Bytes::tokens_end))]
 pub fn tokens_of(alloc: Global, text: &[u8]) -> Result<Vec<Token>, ParseError>
-    ensures { Gives (λ v. v.items) result (tokens_of text.now) }
+    ensures { ParseGives (λ v. v.items) result (tokens_of text.now) }
 {
     let mut tokens = Vec::new(alloc);
     let mut rest = text;

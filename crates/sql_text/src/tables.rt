@@ -1,11 +1,11 @@
 // Tables, columns and joins.
 ghost use Rattle.std.specs.Prelude.{◌≡◌, Some, option_map, OnOk, IfOk, refl};
 ghost use Rattle.query_model.specs.declared.query.NamePair.{NamePair as Pair};
-ghost use Rattle.sql_text.specs.Answers.{Gives};
-ghost use Rattle.sql_text.specs.Parts.{dotted};
-ghost use Rattle.sql_text.specs.Queries.{name_at, count_behind, table_named, table_at, from_at, column_ref_at, after_equal, pair_at, on_at, joined_table_at};
+ghost use Rattle.sql_text.specs.Answers.{ParseGives};
+ghost use Rattle.sql_text.specs.Terms.{dotted};
+ghost use Rattle.sql_text.specs.Queries.{name_parse, count_behind, table_named, table_at, from_at, column_ref_at, after_equal, pair_at, on_at, joined_table_at};
 
-use crate::lists::{Listed, Mark, list_at};
+use crate::lists::{Listed, Separator, list_at};
 use crate::parse_error::{ParseError, next_token};
 use chunk_data::Bytes;
 use query_model::query::{ColumnRef, Join, NamePair, TableRef};
@@ -13,7 +13,7 @@ use sql_grammar::{Keyword, Sign, Token};
 use std::alloc::Global;
 
 pub fn name_at(tokens: &[Token]) -> Result<(Bytes, &[Token]), ParseError>
-    ensures { Gives (λ p. (p.0, p.1.now)) result (name_at tokens.now) }
+    ensures { ParseGives (λ p. (p.0, p.1.now)) result (name_parse tokens.now) }
 {
     let (token, rest) = next_token(tokens)?;
     match token {
@@ -24,7 +24,7 @@ pub fn name_at(tokens: &[Token]) -> Result<(Bytes, &[Token]), ParseError>
 
 // The number of `numbers`, behind the parenthesis.
 fn count_behind(tokens: &[Token]) -> Result<(TableRef, &[Token]), ParseError>
-    ensures { Gives (λ p. (p.0, p.1.now)) result (count_behind tokens.now) }
+    ensures { ParseGives (λ p. (p.0, p.1.now)) result (count_behind tokens.now) }
 {
     match tokens {
         [Token::Number(count), Token::Sign(Sign::Close), ..] => {
@@ -37,7 +37,7 @@ fn count_behind(tokens: &[Token]) -> Result<(TableRef, &[Token]), ParseError>
 // `numbers` has a meaning of its own only before a parenthesis, which stands behind no other name
 // of a table.
 fn table_named(name: Bytes, tokens: &[Token]) -> Result<(TableRef, &[Token]), ParseError>
-    ensures { Gives (λ p. (p.0, p.1.now)) result (table_named name tokens.now) }
+    ensures { ParseGives (λ p. (p.0, p.1.now)) result (table_named name tokens.now) }
 {
     match tokens.split_first() {
         Some((Token::Sign(Sign::Open), rest)) => {
@@ -52,14 +52,14 @@ fn table_named(name: Bytes, tokens: &[Token]) -> Result<(TableRef, &[Token]), Pa
 }
 
 fn table_at(tokens: &[Token]) -> Result<(TableRef, &[Token]), ParseError>
-    ensures { Gives (λ p. (p.0, p.1.now)) result (table_at tokens.now) }
+    ensures { ParseGives (λ p. (p.0, p.1.now)) result (table_at tokens.now) }
 {
     let (name, rest) = name_at(tokens)?;
     table_named(name, rest)
 }
 
 pub fn from_at(tokens: &[Token]) -> Result<(TableRef, &[Token]), ParseError>
-    ensures { Gives (λ p. (p.0, p.1.now)) result (from_at tokens.now) }
+    ensures { ParseGives (λ p. (p.0, p.1.now)) result (from_at tokens.now) }
 {
     match next_token(tokens)? {
         (Token::Keyword(Keyword::From), rest) => table_at(rest),
@@ -69,7 +69,7 @@ pub fn from_at(tokens: &[Token]) -> Result<(TableRef, &[Token]), ParseError>
 
 /// The column that begins with the name, and the tokens behind it.
 pub fn dotted_at(name: Bytes, tokens: &[Token]) -> Result<(ColumnRef, &[Token]), ParseError>
-    ensures { Gives (λ p. (p.0, p.1.now)) result (Some (dotted name tokens.now)) }
+    ensures { ParseGives (λ p. (p.0, p.1.now)) result (Some (dotted name tokens.now)) }
 {
     if let [Token::Sign(Sign::Dot), Token::Name(column), ..] = tokens {
         let column = ColumnRef {
@@ -82,14 +82,14 @@ pub fn dotted_at(name: Bytes, tokens: &[Token]) -> Result<(ColumnRef, &[Token]),
 }
 
 pub fn column_ref_at(tokens: &[Token]) -> Result<(ColumnRef, &[Token]), ParseError>
-    ensures { Gives (λ p. (p.0, p.1.now)) result (column_ref_at tokens.now) }
+    ensures { ParseGives (λ p. (p.0, p.1.now)) result (column_ref_at tokens.now) }
 {
     let (name, rest) = name_at(tokens)?;
     dotted_at(name, rest)
 }
 
 fn after_equal(tokens: &[Token]) -> Result<&[Token], ParseError>
-    ensures { Gives (λ rest. rest.now) result (after_equal tokens.now) }
+    ensures { ParseGives (λ rest. rest.now) result (after_equal tokens.now) }
 {
     match next_token(tokens)? {
         (Token::Sign(Sign::Equal), rest) => Ok(rest),
@@ -118,11 +118,11 @@ impl Listed for NamePair {
 }
 
 fn on_at(alloc: Global, table: TableRef, tokens: &[Token]) -> Result<(Join, &[Token]), ParseError>
-    ensures { Gives (λ p. (p.0, p.1.now)) result (on_at table tokens.now) }
+    ensures { ParseGives (λ p. (p.0, p.1.now)) result (on_at table tokens.now) }
 {
     match next_token(tokens)? {
         (Token::Keyword(Keyword::On), rest) => {
-            let (pairs, rest) = list_at(alloc, Mark::And, rest, 0)?;
+            let (pairs, rest) = list_at(alloc, Separator::And, rest, 0)?;
             Ok((Join { table, pairs }, rest))
         }
         _ => Err(ParseError::Syntax),
@@ -131,7 +131,7 @@ fn on_at(alloc: Global, table: TableRef, tokens: &[Token]) -> Result<(Join, &[To
 
 /// The table and the pairs behind JOIN.
 pub fn joined_table_at(alloc: Global, tokens: &[Token]) -> Result<(Join, &[Token]), ParseError>
-    ensures { Gives (λ p. (p.0, p.1.now)) result (joined_table_at tokens.now) }
+    ensures { ParseGives (λ p. (p.0, p.1.now)) result (joined_table_at tokens.now) }
 {
     let (table, rest) = table_at(tokens)?;
     on_at(alloc, table, rest)

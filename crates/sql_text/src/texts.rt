@@ -2,9 +2,9 @@
 ghost use Rattle.std.specs.Prelude.{◌≡◌, ℕ, List as Seq, true, false, IfOk, IfErr, length};
 ghost use Rattle.query_model.specs.declared.query.Query.{Query};
 ghost use Rattle.sql_grammar.specs.Names.{query_tree, Spells};
-ghost use Rattle.sql_text.specs.Answers.{Gives};
-ghost use Rattle.sql_text.specs.Queries.{is_end, text_query};
-ghost use Rattle.sql_text.specs.Refusals.{IsReadFrom, IsRefused, refusal_of};
+ghost use Rattle.sql_text.specs.Answers.{ParseGives};
+ghost use Rattle.sql_text.specs.Queries.{is_text_end, text_query};
+ghost use Rattle.sql_text.specs.Refusals.{IsReadFrom, IsRefused, parse_refusal_of};
 
 use crate::limits::{MAX_TEXT, ParseRefusal, token_refusal};
 use crate::parse_error::ParseError;
@@ -15,7 +15,7 @@ use sql_grammar::{Sign, Token};
 use std::alloc::Global;
 
 fn refusal_of(error: ParseError) -> ParseRefusal
-    ensures { result ≡ refusal_of error }
+    ensures { result ≡ parse_refusal_of error }
 {
     match error {
         ParseError::Syntax => ParseRefusal::Syntax,
@@ -24,14 +24,14 @@ fn refusal_of(error: ParseError) -> ParseRefusal
 }
 
 fn is_end(tokens: &[Token]) -> bool
-    ensures { result ≡ is_end tokens.now }
+    ensures { result ≡ is_text_end tokens.now }
 {
     matches!(tokens, [] | [Token::Sign(Sign::Semicolon)])
 }
 
 // The query that the tokens of a text are, all of them.
 fn text_query(alloc: Global, tokens: &[Token]) -> Result<Query, ParseError>
-    ensures { Gives query_tree result (text_query (length tokens.now) tokens.now) }
+    ensures { ParseGives query_tree result (text_query (length tokens.now) tokens.now) }
 {
     let (query, rest) = query_at(alloc, tokens, tokens.len())?;
     if is_end(rest) {

@@ -1,4 +1,4 @@
-use Rattle.sql_text.proofs.part.combined.Goals as goal
+use Rattle.sql_text.proofs.term.combined.Goals as goal
 
 pub returns-in-Compare : goal.returns-in-Compare
 returns-in-Compare c = rw c.in-Compare.is (c.compared.ensures c.args.clause)

@@ -1,11 +1,11 @@
 // Expressions and conditions.
 ghost use Rattle.std.specs.Prelude.{◌≡◌, ℕ, suc, ◌+◌, ◌<◌, ◌≤◌, length, List, Some, None, option_map, OnOk, IfOk};
 ghost use Rattle.query_model.specs.Formulas.{call_form, cond_form, formula, number, operand_form};
-ghost use Rattle.sql_text.specs.declared.part.BinaryOperator.TheVariants.{Arith, Compare, And, Or};
+ghost use Rattle.sql_text.specs.declared.term.BinaryOperator.TheVariants.{Arith, Compare, And, Or};
 ghost use Rattle.sql_grammar.specs.declared.Token.{Token};
-ghost use Rattle.sql_text.specs.declared.part.Clause.{Clause as Kind};
-ghost use Rattle.sql_text.specs.Answers.{Gives};
-ghost use Rattle.sql_text.specs.Parts.{expression, truth, parsed, calculated, sign_joint, keyword_joint, joint_of, level, next_joint, combined, side_of, plain_of, condition_of, column_at, negative_at, after_close, closed_at, count_at, call_over, called, call_at, word_at, negation_at, first_sign, first_keyword, first_part, turn_of, joined, part_at};
+ghost use Rattle.sql_text.specs.declared.term.Clause.{Clause as Kind};
+ghost use Rattle.sql_text.specs.Answers.{ParseGives};
+ghost use Rattle.sql_text.specs.Terms.{expression, truth, parsed, calculated, sign_joint, keyword_joint, joint_of, level, next_joint, binary_of, side_of, plain_operand, condition_of, column_at, negative_at, behind_bracket, closed_at, count_at, call_over, called, call_at, word_at, negation_at, first_sign, first_keyword, first_term, turn_of, joined, term_at};
 
 use crate::parse_error::{ParseError, next_token};
 use crate::tables::dotted_at;
@@ -43,7 +43,7 @@ pub enum BinaryOperator {
 // A part of an expression or a condition. It is small, since the reading of nested parts holds many
 // of them on the stack.
 #[derive(Drop)]
-pub enum Part {
+pub enum Term {
     Plain(Box<ExprOf<ColumnRef>>),
     Text(Bytes),
     Call(Box<AggCall<ColumnRef>>),
@@ -122,45 +122,45 @@ fn next_joint(least: u8, tokens: &[Token]) -> Option<(BinaryOperator, &[Token])>
     }
 }
 
-fn side_of(part: Part) -> Result<Operand<ColumnRef>, ParseError>
-    ensures { Gives operand_form result (side_of (parsed part)) }
+fn side_of(part: Term) -> Result<Operand<ColumnRef>, ParseError>
+    ensures { ParseGives operand_form result (side_of (parsed part)) }
 {
     match part {
-        Part::Plain(e) => Ok(Operand::Plain(Box::into_inner(e))),
-        Part::Text(t) => Ok(Operand::Text(t)),
-        Part::Call(c) => Ok(Operand::Agg(Box::into_inner(c))),
-        Part::Condition(_) => Err(ParseError::Syntax),
+        Term::Plain(e) => Ok(Operand::Plain(Box::into_inner(e))),
+        Term::Text(t) => Ok(Operand::Text(t)),
+        Term::Call(c) => Ok(Operand::Agg(Box::into_inner(c))),
+        Term::Condition(_) => Err(ParseError::Syntax),
     }
 }
 
-pub fn plain_of(part: Part) -> Result<Box<ExprOf<ColumnRef>>, ParseError>
-    ensures { Gives (λ e. formula e.value) result (plain_of (parsed part)) }
+pub fn plain_of(part: Term) -> Result<Box<ExprOf<ColumnRef>>, ParseError>
+    ensures { ParseGives (λ e. formula e.value) result (plain_operand (parsed part)) }
 {
     match part {
-        Part::Plain(e) => Ok(e),
-        Part::Text(_) | Part::Call(_) | Part::Condition(_) => Err(ParseError::Syntax),
+        Term::Plain(e) => Ok(e),
+        Term::Text(_) | Term::Call(_) | Term::Condition(_) => Err(ParseError::Syntax),
     }
 }
 
-pub fn condition_of(part: Part) -> Result<Box<CondOf<ColumnRef>>, ParseError>
-    ensures { Gives (λ c. cond_form c.value) result (condition_of (parsed part)) }
+pub fn condition_of(part: Term) -> Result<Box<CondOf<ColumnRef>>, ParseError>
+    ensures { ParseGives (λ c. cond_form c.value) result (condition_of (parsed part)) }
 {
     match part {
-        Part::Condition(c) => Ok(c),
-        Part::Plain(_) | Part::Text(_) | Part::Call(_) => Err(ParseError::Syntax),
+        Term::Condition(c) => Ok(c),
+        Term::Plain(_) | Term::Text(_) | Term::Call(_) => Err(ParseError::Syntax),
     }
 }
 
-fn plain_part(alloc: Global, expr: ExprOf<ColumnRef>) -> Result<Part, ParseError>
-    ensures { Gives parsed result (Some (expression (formula expr))) }
+fn plain_part(alloc: Global, expr: ExprOf<ColumnRef>) -> Result<Term, ParseError>
+    ensures { ParseGives parsed result (Some (expression (formula expr))) }
 {
-    Ok(Part::Plain(Box::new(alloc, expr)?))
+    Ok(Term::Plain(Box::new(alloc, expr)?))
 }
 
-fn condition_part(alloc: Global, condition: CondOf<ColumnRef>) -> Result<Part, ParseError>
-    ensures { Gives parsed result (Some (truth (cond_form condition))) }
+fn condition_part(alloc: Global, condition: CondOf<ColumnRef>) -> Result<Term, ParseError>
+    ensures { ParseGives parsed result (Some (truth (cond_form condition))) }
 {
-    Ok(Part::Condition(Box::new(alloc, condition)?))
+    Ok(Term::Condition(Box::new(alloc, condition)?))
 }
 
 // HAVING has no arithmetic.
@@ -168,10 +168,10 @@ fn calculated(
     alloc: Global,
     clause: Clause,
     op: ArithOp,
-    left: Part,
-    right: Part,
-) -> Result<Part, ParseError>
-    ensures { Gives parsed result (calculated clause op (parsed left) (parsed right)) }
+    left: Term,
+    right: Term,
+) -> Result<Term, ParseError>
+    ensures { ParseGives parsed result (calculated clause op (parsed left) (parsed right)) }
 {
     match clause {
         Clause::OfRows => {
@@ -183,25 +183,25 @@ fn calculated(
     }
 }
 
-fn compared(alloc: Global, op: CompareOp, left: Part, right: Part) -> Result<Part, ParseError>
+fn compared(alloc: Global, op: CompareOp, left: Term, right: Term) -> Result<Term, ParseError>
     ensures { (k : Kind)
-        → Gives parsed result (combined k (Compare op) (parsed left) (parsed right)) }
+        → ParseGives parsed result (binary_of k (Compare op) (parsed left) (parsed right)) }
 {
     let a = side_of(left)?;
     let b = side_of(right)?;
     condition_part(alloc, CondOf::Compare(op, a, b))
 }
 
-fn both_of(alloc: Global, left: Part, right: Part) -> Result<Part, ParseError>
-    ensures { (k : Kind) → Gives parsed result (combined k And (parsed left) (parsed right)) }
+fn both_of(alloc: Global, left: Term, right: Term) -> Result<Term, ParseError>
+    ensures { (k : Kind) → ParseGives parsed result (binary_of k And (parsed left) (parsed right)) }
 {
     let a = condition_of(left)?;
     let b = condition_of(right)?;
     condition_part(alloc, CondOf::And(a, b))
 }
 
-fn either_of(alloc: Global, left: Part, right: Part) -> Result<Part, ParseError>
-    ensures { (k : Kind) → Gives parsed result (combined k Or (parsed left) (parsed right)) }
+fn either_of(alloc: Global, left: Term, right: Term) -> Result<Term, ParseError>
+    ensures { (k : Kind) → ParseGives parsed result (binary_of k Or (parsed left) (parsed right)) }
 {
     let a = condition_of(left)?;
     let b = condition_of(right)?;
@@ -212,10 +212,10 @@ fn combined(
     alloc: Global,
     clause: Clause,
     joint: BinaryOperator,
-    left: Part,
-    right: Part,
-) -> Result<Part, ParseError>
-    ensures { Gives parsed result (combined clause joint (parsed left) (parsed right)) }
+    left: Term,
+    right: Term,
+) -> Result<Term, ParseError>
+    ensures { ParseGives parsed result (binary_of clause joint (parsed left) (parsed right)) }
 {
     match joint {
         BinaryOperator::Arith(op) => calculated(alloc, clause, op, left, right),
@@ -230,22 +230,23 @@ fn column_at<'a>(
     alloc: Global,
     name: &Bytes,
     tokens: &'a [Token],
-) -> Result<(Part, &'a [Token]), ParseError>
-    ensures { Gives (λ p. (parsed p.0, p.1.now)) result (Some (column_at name.now tokens.now)) }
+) -> Result<(Term, &'a [Token]), ParseError>
+    ensures { ParseGives (λ p. (parsed p.0, p.1.now)) result
+        (Some (column_at name.now tokens.now)) }
 {
     let (column, rest) = dotted_at(name.copy()?, tokens)?;
     Ok((plain_part(alloc, ExprOf::Column(column))?, rest))
 }
 
-fn number_part(alloc: Global, negative: bool, size: u64) -> Result<Part, ParseError>
-    ensures { Gives parsed result
+fn number_part(alloc: Global, negative: bool, size: u64) -> Result<Term, ParseError>
+    ensures { ParseGives parsed result
         (Some (expression (number (record { negative = negative; size = size })))) }
 {
     plain_part(alloc, ExprOf::Number(Number { negative, size }))
 }
 
-fn negative_at(alloc: Global, tokens: &[Token]) -> Result<(Part, &[Token]), ParseError>
-    ensures { Gives (λ p. (parsed p.0, p.1.now)) result (negative_at tokens.now) }
+fn negative_at(alloc: Global, tokens: &[Token]) -> Result<(Term, &[Token]), ParseError>
+    ensures { ParseGives (λ p. (parsed p.0, p.1.now)) result (negative_at tokens.now) }
 {
     match next_token(tokens)? {
         (Token::Number(size), rest) => Ok((number_part(alloc, true, *size)?, rest)),
@@ -254,7 +255,7 @@ fn negative_at(alloc: Global, tokens: &[Token]) -> Result<(Part, &[Token]), Pars
 }
 
 fn after_close(tokens: &[Token]) -> Result<&[Token], ParseError>
-    ensures { Gives (λ rest. rest.now) result (after_close tokens.now) }
+    ensures { ParseGives (λ rest. rest.now) result (behind_bracket tokens.now) }
 {
     let (token, rest) = next_token(tokens)?;
     match token {
@@ -264,23 +265,23 @@ fn after_close(tokens: &[Token]) -> Result<&[Token], ParseError>
 }
 
 // An expression stands in parentheses, but not in HAVING.
-fn closed_at(clause: Clause, part: Part, tokens: &[Token]) -> Result<(Part, &[Token]), ParseError>
-    ensures { Gives (λ p. (parsed p.0, p.1.now)) result
+fn closed_at(clause: Clause, part: Term, tokens: &[Token]) -> Result<(Term, &[Token]), ParseError>
+    ensures { ParseGives (λ p. (parsed p.0, p.1.now)) result
         (closed_at clause (parsed part) tokens.now) }
 {
     match part {
-        Part::Plain(e) => match clause {
-            Clause::OfRows => Ok((Part::Plain(e), after_close(tokens)?)),
+        Term::Plain(e) => match clause {
+            Clause::OfRows => Ok((Term::Plain(e), after_close(tokens)?)),
             Clause::OfGroups => Err(ParseError::Syntax),
         },
-        Part::Text(_) | Part::Call(_) => Err(ParseError::Syntax),
-        Part::Condition(c) => Ok((Part::Condition(c), after_close(tokens)?)),
+        Term::Text(_) | Term::Call(_) => Err(ParseError::Syntax),
+        Term::Condition(c) => Ok((Term::Condition(c), after_close(tokens)?)),
     }
 }
 
 // What `count` is called with, behind the first parenthesis: nothing, or a star.
 fn count_at(tokens: &[Token]) -> Result<(AggCall<ColumnRef>, &[Token]), ParseError>
-    ensures { Gives (λ p. (call_form p.0, p.1.now)) result (count_at tokens.now) }
+    ensures { ParseGives (λ p. (call_form p.0, p.1.now)) result (count_at tokens.now) }
 {
     let count = AggCall {
         op: AggOp::Count,
@@ -296,10 +297,10 @@ fn count_at(tokens: &[Token]) -> Result<(AggCall<ColumnRef>, &[Token]), ParseErr
 // A call over the expression that was read.
 fn call_over(
     op: AggOp,
-    part: Part,
+    part: Term,
     tokens: &[Token],
 ) -> Result<(AggCall<ColumnRef>, &[Token]), ParseError>
-    ensures { Gives (λ p. (call_form p.0, p.1.now)) result
+    ensures { ParseGives (λ p. (call_form p.0, p.1.now)) result
         (call_over op (Some (parsed part, tokens.now))) }
 {
     let e = plain_of(part)?;
@@ -319,17 +320,17 @@ pub fn called<'a>(word: &[u8], tokens: &'a [Token]) -> Option<(AggOp, &'a [Token
     }
 }
 
-fn negated(alloc: Global, part: Part) -> Result<Part, ParseError>
+fn negated(alloc: Global, part: Term) -> Result<Term, ParseError>
     ensures { (rest : List Token)
-        → Gives (λ p. (parsed p, rest)) result (negation_at (parsed part) rest) }
+        → ParseGives (λ p. (parsed p, rest)) result (negation_at (parsed part) rest) }
 {
     match part {
-        Part::Condition(c) => condition_part(alloc, CondOf::Not(c)),
-        Part::Plain(_) | Part::Text(_) | Part::Call(_) => Err(ParseError::Syntax),
+        Term::Condition(c) => condition_part(alloc, CondOf::Not(c)),
+        Term::Plain(_) | Term::Text(_) | Term::Call(_) => Err(ParseError::Syntax),
     }
 }
 
-/// The call of an aggregate, behind its first parenthesis. `depth` is that of `part_at`.
+/// The call of an aggregate, behind its first parenthesis. `depth` is that of `term_at`.
 #[cycle(part)]
 pub fn call_at(
     alloc: Global,
@@ -337,12 +338,13 @@ pub fn call_at(
     tokens: &[Token],
     depth: usize,
 ) -> Result<(AggCall<ColumnRef>, &[Token]), ParseError>
-    ensures { Gives (λ p. (call_form p.0, p.1.now)) result (call_at (part_at depth) op tokens.now) }
+    ensures { ParseGives (λ p. (call_form p.0, p.1.now)) result
+        (call_at (term_at depth) op tokens.now) }
 {
     match op {
         AggOp::Count => count_at(tokens),
         AggOp::Sum | AggOp::Min | AggOp::Max => {
-            let (part, rest) = part_at(alloc, Clause::OfRows, EXPRESSION, tokens, depth)?;
+            let (part, rest) = term_at(alloc, Clause::OfRows, EXPRESSION, tokens, depth)?;
             call_over(op, part, rest)
         }
     }
@@ -356,16 +358,16 @@ fn word_at<'a>(
     word: &Bytes,
     tokens: &'a [Token],
     depth: usize,
-) -> Result<(Part, &'a [Token]), ParseError>
-    ensures { Gives (λ p. (parsed p.0, p.1.now)) result
-        (word_at clause (part_at depth) word.now tokens.now) }
+) -> Result<(Term, &'a [Token]), ParseError>
+    ensures { ParseGives (λ p. (parsed p.0, p.1.now)) result
+        (word_at clause (term_at depth) word.now tokens.now) }
 {
     match clause {
         Clause::OfRows => column_at(alloc, word, tokens),
         Clause::OfGroups => match called(word.as_slice(), tokens) {
             Some((op, rest)) => {
                 let (call, rest) = call_at(alloc, op, rest, depth)?;
-                Ok((Part::Call(Box::new(alloc, call)?), rest))
+                Ok((Term::Call(Box::new(alloc, call)?), rest))
             }
             None => column_at(alloc, word, tokens),
         },
@@ -379,14 +381,14 @@ fn first_sign(
     sign: Sign,
     tokens: &[Token],
     depth: usize,
-) -> Result<(Part, &[Token]), ParseError>
-    ensures { Gives (λ p. (parsed p.0, p.1.now)) result
-        (first_sign clause (part_at depth) sign tokens.now) }
+) -> Result<(Term, &[Token]), ParseError>
+    ensures { ParseGives (λ p. (parsed p.0, p.1.now)) result
+        (first_sign clause (term_at depth) sign tokens.now) }
 {
     match sign {
         Sign::Minus => negative_at(alloc, tokens),
         Sign::Open => {
-            let (part, rest) = part_at(alloc, clause, CONDITION, tokens, depth)?;
+            let (part, rest) = term_at(alloc, clause, CONDITION, tokens, depth)?;
             closed_at(clause, part, rest)
         }
         _ => Err(ParseError::Syntax),
@@ -400,13 +402,13 @@ fn first_keyword(
     keyword: Keyword,
     tokens: &[Token],
     depth: usize,
-) -> Result<(Part, &[Token]), ParseError>
-    ensures { Gives (λ p. (parsed p.0, p.1.now)) result
-        (first_keyword clause (part_at depth) keyword tokens.now) }
+) -> Result<(Term, &[Token]), ParseError>
+    ensures { ParseGives (λ p. (parsed p.0, p.1.now)) result
+        (first_keyword clause (term_at depth) keyword tokens.now) }
 {
     match keyword {
         Keyword::Not => {
-            let (part, rest) = part_at(alloc, clause, COMPARISON, tokens, depth)?;
+            let (part, rest) = term_at(alloc, clause, COMPARISON, tokens, depth)?;
             Ok((negated(alloc, part)?, rest))
         }
         _ => Err(ParseError::Syntax),
@@ -416,14 +418,14 @@ fn first_keyword(
 // A part without binary operators: a column, a number, a string, a call, what stands in
 // parentheses, or a negation.
 #[cycle(part)]
-fn first_part(
+fn first_term(
     alloc: Global,
     clause: Clause,
     tokens: &[Token],
     depth: usize,
-) -> Result<(Part, &[Token]), ParseError>
-    ensures { Gives (λ p. (parsed p.0, p.1.now)) result
-        (first_part clause (part_at depth) tokens.now) }
+) -> Result<(Term, &[Token]), ParseError>
+    ensures { ParseGives (λ p. (parsed p.0, p.1.now)) result
+        (first_term clause (term_at depth) tokens.now) }
 {
     let (token, rest) = next_token(tokens)?;
     match token {
@@ -431,7 +433,7 @@ fn first_part(
         Token::Keyword(keyword) => first_keyword(alloc, clause, *keyword, rest, depth),
         Token::Number(size) => Ok((number_part(alloc, false, *size)?, rest)),
         Token::LargeNumber => Err(ParseError::Syntax),
-        Token::Text(text) => Ok((Part::Text(text.copy()?), rest)),
+        Token::Text(text) => Ok((Term::Text(text.copy()?), rest)),
         Token::Sign(sign) => first_sign(alloc, clause, *sign, rest, depth),
     }
 }
@@ -440,19 +442,20 @@ fn first_part(
 /// `depth` bounds how deep parts stand in parts; the count of the tokens is always enough.
 #[cycle(part)]
 #[tactic(auto, using(crate::proofs::Turns::no_depth, crate::proofs::Turns::part_goes))]
-pub fn part_at(
+pub fn term_at(
     alloc: Global,
     clause: Clause,
     least: u8,
     tokens: &[Token],
     depth: usize,
-) -> Result<(Part, &[Token]), ParseError>
-    ensures { Gives (λ p. (parsed p.0, p.1.now)) result (part_at depth clause least tokens.now) }
+) -> Result<(Term, &[Token]), ParseError>
+    ensures { ParseGives (λ p. (parsed p.0, p.1.now)) result
+        (term_at depth clause least tokens.now) }
 {
     if depth == 0 {
         return Err(ParseError::Syntax);
     }
-    let (first, rest) = first_part(alloc, clause, tokens, depth - 1)?;
+    let (first, rest) = first_term(alloc, clause, tokens, depth - 1)?;
     joined(alloc, clause, least, first, rest, depth - 1)
 }
 
@@ -462,14 +465,14 @@ fn turn_of(
     alloc: Global,
     clause: Clause,
     joint: BinaryOperator,
-    left: Part,
+    left: Term,
     tokens: &[Token],
     depth: usize,
-) -> Result<(Part, &[Token]), ParseError>
-    ensures { Gives (λ p. (parsed p.0, p.1.now)) result
-        (turn_of clause (part_at depth) joint (parsed left) tokens.now) }
+) -> Result<(Term, &[Token]), ParseError>
+    ensures { ParseGives (λ p. (parsed p.0, p.1.now)) result
+        (turn_of clause (term_at depth) joint (parsed left) tokens.now) }
 {
-    let (right, rest) = part_at(alloc, clause, level_above(joint), tokens, depth)?;
+    let (right, rest) = term_at(alloc, clause, level_above(joint), tokens, depth)?;
     Ok((combined(alloc, clause, joint, left, right)?, rest))
 }
 
@@ -480,12 +483,12 @@ fn joined(
     alloc: Global,
     clause: Clause,
     least: u8,
-    first: Part,
+    first: Term,
     tokens: &[Token],
     depth: usize,
-) -> Result<(Part, &[Token]), ParseError>
-    ensures { Gives (λ p. (parsed p.0, p.1.now)) result
-        (joined clause (part_at depth) least (suc (length tokens.now)) (parsed first) tokens.now) }
+) -> Result<(Term, &[Token]), ParseError>
+    ensures { ParseGives (λ p. (parsed p.0, p.1.now)) result
+        (joined clause (term_at depth) least (suc (length tokens.now)) (parsed first) tokens.now) }
 {
     let mut part = first;
     let mut rest = tokens;
