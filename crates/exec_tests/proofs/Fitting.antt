@@ -7,14 +7,14 @@ use Rattle.atomic_table.proofs.Lists.{at_last, at_longer}
 use Rattle.std.proofs.lemmas.List.Elements.{All-nil, All-push}
 use Rattle.task_queue.specs.declared.seat.ShelfSeat.{ShelfSeat}
 use Rattle.task_queue.specs.declared.shelf.Shelf.{Shelf}
-use Rattle.task_queue.specs.Rules.{all_parts}
+use Rattle.task_queue.specs.Rules.{all_shares}
 use Rattle.task_queue.specs.Shelves.{parts, IsIdleSeatOf, AreAllIdle}
 use Rattle.task_queue.specs.Values.{AllFit}
 use Rattle.task_queue.proofs.SlotValues.{AllFit-push}
-use Rattle.exec_tests.specs.NamedCells.{Picture, IsAsNamed, CellFits}
+use Rattle.exec_tests.specs.NamedCells.{NamedBox, IsAsNamed, NamedCellFits}
 
 -- a box is as it is named
-pub as_named-same : (p : Picture) → IsAsNamed p p
+pub as_named-same : (p : NamedBox) → IsAsNamed p p
 as_named-same p = record {
   kind = refl;
   files = refl;
@@ -25,7 +25,7 @@ as_named-same p = record {
   pulled = omega arith;
 }
 
-as_named-later : (p q r : Picture) → IsAsNamed p q → IsAsNamed q r → IsAsNamed p r
+as_named-later : (p q r : NamedBox) → IsAsNamed p q → IsAsNamed q r → IsAsNamed p r
 as_named-later p q r first second = record {
   kind = second.kind ∙ first.kind;
   files = second.files ∙ first.files;
@@ -37,8 +37,8 @@ as_named-later p q r first second = record {
 }
 
 -- a cell stays in its place while its box stays as it is named
-pub cell_fits-later : (table of : TableId) (named : ℕ → Picture) (k n : ℕ) (p q : Picture)
-    → CellFits table named of k p n → IsAsNamed p q → CellFits table named of k q n
+pub cell_fits-later : (table of : TableId) (named : ℕ → NamedBox) (k n : ℕ) (p q : NamedBox)
+    → NamedCellFits table named of k p n → IsAsNamed p q → NamedCellFits table named of k q n
 cell_fits-later table of named k n p q fit later = record {
   of = fit.of;
   number = fit.number;
@@ -49,7 +49,7 @@ module _ {V : Type 0} where
   -- one seat with all parts
   pub idle-single : (shelf : Shelf V) (seats : List (ShelfSeat V)) (s : ShelfSeat V)
       → seats ≡ [] ++ s ∷ []
-      → parts s ≡ all_parts → IsIdleSeatOf shelf s → AreAllIdle shelf seats
+      → parts s ≡ all_shares → IsIdleSeatOf shelf s → AreAllIdle shelf seats
   idle-single shelf seats s is whole idle = subst (AreAllIdle shelf) (sym is) (
     (let w = whole in omega arith),
     All-push (IsIdleSeatOf shelf) [] s (All-nil (IsIdleSeatOf shelf)) idle,
@@ -57,7 +57,7 @@ module _ {V : Type 0} where
 
   -- two seats with all parts between them
   pub idle-two : (shelf : Shelf V) (seats : List (ShelfSeat V)) (s t : ShelfSeat V)
-      → seats ≡ ([] ++ s ∷ []) ++ t ∷ [] → parts s + parts t ≡ all_parts
+      → seats ≡ ([] ++ s ∷ []) ++ t ∷ [] → parts s + parts t ≡ all_shares
       → IsIdleSeatOf shelf s → IsIdleSeatOf shelf t → AreAllIdle shelf seats
   idle-two shelf seats s t is whole first second = subst (AreAllIdle shelf) (sym is) (
     (let w = whole in omega arith),

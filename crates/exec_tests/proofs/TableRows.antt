@@ -1,11 +1,11 @@
 -- Steps at a table of two nodes and one edge; and the names that the tests' proofs use.
-pub use Rattle.exec_table.proofs.Imports.{take, Act, Answer, Bool, Flags, Identity, IsSeatOf, List, Makes, NodeState, None, Option, Pull, Push, Slots, Some, Step, Want, Wire, [], acting_end, allows, and_from, ap, arith, can_act, cases_Bool, cond, drop, edges_out, end_of_view, eqb, eqb-true, false, get_or, holds_chunk, identity_of, inl, inr, is_some, key_of, length, length-append, map, marked_peer, not, ready, refl, rules, slot_in, slot_of, slots, spent, subst, suc, sym, true, view, zero, ℕ, ⊎_elim, ◌&&◌, ◌++◌, ◌+◌, ◌-◌, ◌<◌, ◌||◌, ◌∙◌, ◌∷◌, ◌≡◌}
-use Rattle.exec_table.proofs.Imports.{AreAll, Chunk, Each, IsBack, IsOpen, fits_end, flags_at, get_elem?, has, is_end, knows, no_flags, no_wire, node_view, some, start_board, without}
+pub use Rattle.exec_table.proofs.Imports.{take, Act, StepAnswer, Bool, Flags, Identity, IsSeatOf, List, MakesStep, NodeState, None, Option, Pull, Push, Slots, Some, Step, Want, Wire, [], acting_end, allows, and_from, ap, arith, can_act, cases_Bool, cond, drop, edges_out, end_of_view, eqb, eqb-true, false, get_or, holds_chunk, identity_of, inl, inr, is_some, sizes_in, length, length-append, map, marked_peer, not, ready, refl, rules, slot_in, slot_of, slots, spent, subst, suc, sym, true, view, zero, ℕ, ⊎_elim, ◌&&◌, ◌++◌, ◌+◌, ◌-◌, ◌<◌, ◌||◌, ◌∙◌, ◌∷◌, ◌≡◌}
+use Rattle.exec_table.proofs.Imports.{AreAll, Chunk, EachSeat, IsBack, IsOpen, fits_end, flags_at, get_elem?, has, is_end, knows, no_flags, no_wire, node_view, some, start_board, without}
 use Rattle.std.proofs.Math.Seq.{take-append_seam}
 pub use Rattle.std.specs.Option.{option_to_list}
 pub use Rattle.core_laws.specs.Steps.{flags, is_idle as tells_idle, nothing}
 use Rattle.core_laws.specs.declared.types.Step.TheVariants as step
-use Rattle.exec_table.specs.Known.{state_after}
+use Rattle.exec_table.specs.Known.{core_state_after}
 pub use Rattle.exec_table.specs.Seats.{MakesUpdated, is_idle, marked_of, updated_of}
 pub use Rattle.exec_table.specs.declared.types.Marked.TheVariants.{AlreadyDue, Charged}
 pub use Rattle.exec_table.specs.declared.types.Rested.TheVariants.{UpdatedAgain}
@@ -14,34 +14,35 @@ use Rattle.exec_table.proofs.Hands.{has-slot}
 use Rattle.exec_table.proofs.Known.{state-made, turn-fits, wire-made}
 use Rattle.exec_tests.proofs.Fitting.{fit-last, fit-rest, fit-two}
 pub use Rattle.exec_table.specs.declared.types.NodeView.{NodeView}
-pub use Rattle.exec_tests.specs.TableRows.{Born, ExecTable, NodeSeat, Is, IsFirst, IsHeld, Saw, content, edge_wire, edges_in, idle, node, seen_as, sizes_of, was_charged}
+pub use Rattle.exec_tests.specs.TableRows.{Born, ExecTable, NodeSeat, Is, IsStartNode, IsHeld, Saw, content, edge_wire, edges_in, idle, node, seen_as, test_sizes, was_charged}
 
 module _ {n : ℕ} {st : NodeState} {t : ExecTable} {s : NodeSeat} (is : Is n st t s) where
   pub can : (p : Step) → ready (record (view s) { state = st }) p ≡ true → ready (view s) p ≡ true
   can p = subst (λ z. ready (record (view s) { state = z }) p ≡ true) (sym is.state)
 
   -- a step that answered a
-  pub stepped : {new : NodeSeat} {p : Step} {x : Option Chunk} {a b : Answer}
-      → Makes (identity_of t) s new p x a → a ≡ b
-      → Is n (state_after (record (view s) { state = st }) p b) t new
+  pub stepped : {new : NodeSeat} {p : Step} {x : Option Chunk} {a b : StepAnswer}
+      → MakesStep (identity_of t) s new p x a → a ≡ b
+      → Is n (core_state_after (record (view s) { state = st }) p b) t new
   stepped {p = p} m q = record {
     pair = is.pair;
     seat = m.seat;
     number = sym (ap (λ (v : NodeView). v.number) m.now) ∙ is.number;
     state = state-made is.seat m
-        ∙ (λ i. state_after (record (view s) { state = is.state i }) p (q i));
+        ∙ (λ i. core_state_after (record (view s) { state = is.state i }) p (q i));
   }
 
-at-first : {n : ℕ} {t : ExecTable} {s : NodeSeat} → IsFirst false n (identity_of t) s
+at-first : {n : ℕ} {t : ExecTable} {s : NodeSeat} → IsStartNode false n (identity_of t) s
     → Is n (idle false 0) t s
 at-first f = record { pair = f.sizes; seat = f.seat; number = f.number; state = f.state }
 
 -- a node that was charged keeps its token
-pub begun : {n : ℕ} {t : ExecTable} {s mid new : NodeSeat} {u : Updated}
-    → IsFirst false n (identity_of t) s → Makes (identity_of t) s mid step.TokenIn None nothing
+pub begin_keeps_token : {n : ℕ} {t : ExecTable} {s mid new : NodeSeat} {u : Updated}
+    → IsStartNode false n (identity_of t) s
+    → MakesStep (identity_of t) s mid step.TokenIn None nothing
     → MakesUpdated (identity_of t) mid new step.Begin u
     → was_charged u ≡ true → IsHeld n 1 t new
-begun {n = n} {t = t} {new = new} f first m h =
+begin_keeps_token {n = n} {t = t} {new = new} f first m h =
     subst (λ k. IsHeld n k t new) (kept m.word (ap was_charged (sym m.ports) ∙ h)) record {
       flags = no_flags;
       unlooked = 0 ∷ [];
@@ -63,7 +64,7 @@ pub in-hand : {n : ℕ} {st : NodeState} {t : ExecTable} {s : NodeSeat} → Is n
 in-hand {s = s} is = sym (has-slot 0 (slots s)) ∙ ap (has 0) (sym is.seat.places)
 
 module _ {n k : ℕ} {t : ExecTable} {s new : NodeSeat} {f : Flags}
-    (h : IsHeld n k t s) (m : Makes (identity_of t) s new (step.Look 0) None (flags f)) where
+    (h : IsHeld n k t s) (m : MakesStep (identity_of t) s new (step.Look 0) None (flags f)) where
   abbrev pub looked : IsHeld n k t new
   looked = record {
     flags = f;
@@ -97,10 +98,10 @@ module _ {n k : ℕ} {f : Flags} {t : ExecTable} {s : NodeSeat} (w : Saw n k f t
       && allows a (flags_at 0 (w.is.state i).seen)) ∙ h
 
 -- what the slot has that is out with an end
-pub filled : (b : Bool) (z : Option (Option Chunk)) → is_some z ≡ true
+pub slot_has_content : (b : Bool) (z : Option (Option Chunk)) → is_some z ≡ true
     → ((v : Option Chunk) → z ≡ Some v → fits_end b v ≡ true) → content z ≡ Some b
-filled b None q fits = absurd (let z : false ≡ true = q in cc)
-filled b (Some v) q fits = grind (arith, fits v refl)
+slot_has_content b None q fits = absurd (let z : false ≡ true = q in cc)
+slot_has_content b (Some v) q fits = grind (arith, fits v refl)
 
 pub full : (z : Option (Option Chunk)) → content z ≡ Some true → holds_chunk z ≡ true
 full z q = grind arith
@@ -111,8 +112,8 @@ empty z q = grind arith
 -- ---- the start and the end
 
 -- a seat as it was dealt
-pub first : (many one : Bool) (t : Identity) (s : NodeSeat) → t.sizes ≡ sizes_of many
-    → IsOpen t (cond one 1 0) s → IsFirst many (cond one 1 0) t s
+pub first : (many one : Bool) (t : Identity) (s : NodeSeat) → t.sizes ≡ test_sizes many
+    → IsOpen t (cond one 1 0) s → IsStartNode many (cond one 1 0) t s
 first many one t s sizes start =
     let is = start.1 ∙ ap (λ z. node_view (start_board z) (cond one 1 0)) sizes in record {
       sizes = sizes;
@@ -123,24 +124,26 @@ first many one t s sizes start =
       slots = start.2;
     }
   where
-    unbegun : (many one : Bool) → let x = node_view (start_board (sizes_of many)) (cond one 1 0) in
+    unbegun : (many one : Bool) → let x =
+        node_view (start_board (test_sizes many)) (cond one 1 0) in
         (x.state ≡ idle many 0) × (x.stage ≡ Born)
     unbegun false false = (refl, refl)
     unbegun false true = (refl, refl)
     unbegun true false = (refl, refl)
     unbegun true true = (refl, refl)
 
-pub dealt : (t : ExecTable) (all l m : List NodeSeat) (a b : NodeSeat)
+pub dealt_are_open : (t : ExecTable) (all l m : List NodeSeat) (a b : NodeSeat)
     → all ≡ l ++ b ∷ [] → l ≡ m ++ a ∷ [] → length all ≡ 2
     → ((k : ℕ) (s : NodeSeat) → get_elem? all k ≡ some s → IsOpen (identity_of t) k s)
     → IsOpen (identity_of t) 0 a × IsOpen (identity_of t) 1 b
-dealt t all l m a b is rest n each = let u = ap length is in let v = length-append l (b ∷ []) in
+dealt_are_open t all l m a b is rest n each = let u = ap length is in let v =
+    length-append l (b ∷ []) in
     let fits : NodeSeat → ℕ → Type 0 = λ s k. IsOpen (identity_of t) k s in (
       fit-last fits l m a rest (fit-rest fits all l b is each) 0 (omega (arith, n, u, v)),
       fit-last fits all l b is each 1 n,
     )
 
-pub all-two : (t : Identity) (l : List NodeSeat) (a b : NodeSeat) → t.sizes ≡ sizes_of false
+pub all-two : (t : Identity) (l : List NodeSeat) (a b : NodeSeat) → t.sizes ≡ test_sizes false
     → l ≡ a ∷ b ∷ [] → IsSeatOf t a × ((view a).number ≡ 0) → IsSeatOf t b × ((view b).number ≡ 1)
     → AreAll t l
 all-two t l a b pair is of-a of-b = (
@@ -150,7 +153,7 @@ all-two t l a b pair is of-a of-b = (
 
 -- seats that a survey gave back, in the vector that lent them
 pub still-all : (t : Identity) (lent items news : List NodeSeat) (k : ℕ) → lent ≡ items
-    → k ≡ length items → length news ≡ length lent → AreAll t lent → Each (IsBack t) lent news
+    → k ≡ length items → length news ≡ length lent → AreAll t lent → EachSeat (IsBack t) lent news
     → AreAll t (take k (news ++ drop (length news) items))
 still-all t lent items news k is many count all back = subst (AreAll t)
     (sym (ap (λ k. take k (news ++ drop (length news) items))

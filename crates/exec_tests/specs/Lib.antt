@@ -1,3 +1,4 @@
+pub mod EndedCells
 pub mod NamedCells
 pub mod Scripts
 pub mod TableRows

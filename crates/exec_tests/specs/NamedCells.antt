@@ -4,7 +4,7 @@ use Rattle.atomic_table.specs.Seated.{TableId}
 
 -- A box: its kind, its told files, whether it keeps its contract, its spec, and its counts with
 -- what each rose since the box was loaded.
-pub record Picture : Type 0 where
+pub record NamedBox : Type 0 where
   pub kind : ℕ
   pub files : Option (List ℕ)
   pub lawful : Bool
@@ -18,7 +18,7 @@ pub record Picture : Type 0 where
 
 -- The box is as it was named. A base count is a count less what it rose since the box was loaded;
 -- those of faults and pendings are no lower, and that of pulled rows is the same.
-pub record IsAsNamed (was now : Picture) : Type 0 where
+pub record IsAsNamed (was now : NamedBox) : Type 0 where
   pub kind : now.kind ≡ was.kind
   pub files : now.files ≡ was.files
   pub lawful : now.lawful ≡ was.lawful
@@ -28,23 +28,23 @@ pub record IsAsNamed (was now : Picture) : Type 0 where
   pub pulled : now.pulled + was.pulled_since ≡ was.pulled + now.pulled_since
 
 -- A cell fits place n: its seat is of the named table, its number is n, and its box is as named.
-pub record CellFits
+pub record NamedCellFits
     (table : TableId)
-    (named : ℕ → Picture)
+    (named : ℕ → NamedBox)
     (seat : TableId)
     (k : ℕ)
-    (box : Picture)
+    (box : NamedBox)
     (n : ℕ) : Type 0 where
   pub of : seat ≡ table
   pub number : k ≡ n
   pub same : IsAsNamed (named n) box
 
-abbrev pub two_names : Picture → Picture → ℕ → Picture
+abbrev pub two_names : NamedBox → NamedBox → ℕ → NamedBox
 two_names a b zero = a
 two_names a b (suc n) = b
 
 -- a worker that only pulls rows
-abbrev pub counter : ℕ → ℕ → Picture
+abbrev pub counter : ℕ → ℕ → NamedBox
 counter kind pulled = record {
   kind = kind;
   files = None;
@@ -58,8 +58,8 @@ counter kind pulled = record {
   pulled_since = pulled;
 }
 
-abbrev pub no_table : TableId
-no_table = record {
+abbrev pub no_table_id : TableId
+no_table_id = record {
   words = 0;
   slots = 0;
   views_name = 0;

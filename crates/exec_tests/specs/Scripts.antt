@@ -4,7 +4,7 @@ use Rattle.query_model.specs.declared.processor_spec.PartSpec.{PartSpec}
 use Rattle.query_model.specs.declared.processor_spec.Spec.{Spec}
 use Rattle.query_model.specs.declared.processor_spec.Spec.TheVariants as spec
 use Rattle.proc_api.specs.Forms.{GrowthForm}
-use Rattle.proc_api.specs.Growing.{list_growth}
+use Rattle.proc_api.specs.kinds.List.{list_growth}
 use Rattle.proc_api.specs.declared.growth.Who.TheVariants.{Me}
 
 abbrev pub script_spec : (list : Bool) → Option PartSpec → Spec

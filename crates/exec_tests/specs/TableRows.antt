@@ -1,11 +1,12 @@
 -- What the seats of a table of two nodes and one edge, or three edges, know.
 use Rattle.std.specs.Prelude.{◌≡◌, ℕ, ◌==◌, ◌||◌, cond, Bool, true, false, is_some, List, [], ◌∷◌, map, Option, Some, None}
 use Rattle.core_laws.specs.Start.{fresh_sight}
-use Rattle.core_laws.specs.Views.{no_flags, without}
+use Rattle.core_laws.specs.Views.{without}
+use Rattle.port_word.specs.Pictures.{no_flags}
 use Rattle.exec_table.specs.CoreNames.{Chunk, Flags, NodeState, Sizes, Wire}
 use Rattle.exec_table.specs.Boards.{fits_end}
 use Rattle.exec_table.specs.Ready.{end_of_view}
-use Rattle.exec_table.specs.Seats.{Identity, IsSeatOf, identity_of, key_of, slot_of, slots, view}
+use Rattle.exec_table.specs.Seats.{Identity, IsSeatOf, identity_of, sizes_in, slot_of, slots, view}
 pub use Rattle.exec_table.specs.declared.rule.ExecTable.{ExecTable}
 pub use Rattle.exec_table.specs.declared.rule.NodeSeat.{NodeSeat}
 pub use Rattle.exec_table.specs.declared.types.Stage.TheVariants.{Born}
@@ -20,8 +21,8 @@ abbrev pub edges_in : Bool → List ℕ
 edges_in false = 0 ∷ []
 edges_in true = 0 ∷ 1 ∷ 2 ∷ []
 
-abbrev pub sizes_of : Bool → Sizes
-sizes_of many = record {
+abbrev pub test_sizes : Bool → Sizes
+test_sizes many = record {
   nodes = 2;
   wires = map edge_wire (edges_in many);
   reserves = [];
@@ -40,8 +41,8 @@ idle many tokens = record {
 }
 
 -- the node n at the start
-pub record IsFirst (many : Bool) (n : ℕ) (t : Identity) (s : NodeSeat) : Type 0 where
-  pub sizes : t.sizes ≡ sizes_of many
+pub record IsStartNode (many : Bool) (n : ℕ) (t : Identity) (s : NodeSeat) : Type 0 where
+  pub sizes : t.sizes ≡ test_sizes many
   pub seat : IsSeatOf t s
   pub number : (view s).number ≡ n
   pub state : (view s).state ≡ idle many 0
@@ -64,7 +65,7 @@ node held tokens flags unlooked owes = record {
 
 -- the seat of the node n of such a table, which is in this state
 pub record Is (n : ℕ) (st : NodeState) (t : ExecTable) (s : NodeSeat) : Type 0 where
-  pub pair : key_of t ≡ sizes_of false
+  pub pair : sizes_in t ≡ test_sizes false
   pub seat : IsSeatOf (identity_of t) s
   pub number : (view s).number ≡ n
   pub state : (view s).state ≡ st

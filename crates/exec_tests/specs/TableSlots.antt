@@ -1,15 +1,16 @@
 -- What the seats of a table of two nodes and three edges know.
 use Rattle.std.specs.Prelude.{◌≡◌, ℕ, ◌==◌, cond, Bool, true, false, Option, Some, None}
-use Rattle.core_laws.specs.Views.{edges_of, flags_at, has, no_flags}
+use Rattle.core_laws.specs.Views.{edges_of, flags_at, has}
+use Rattle.port_word.specs.Pictures.{no_flags}
 use Rattle.exec_table.specs.CoreNames.{Flags}
 use Rattle.exec_table.specs.Ready.{end_of_view}
 use Rattle.exec_table.specs.Seats.{Identity, IsSeatOf, slot_of, view}
-use Rattle.exec_tests.specs.TableRows.{NodeSeat, content, edge_wire, edges_in, seen_as, sizes_of}
+use Rattle.exec_tests.specs.TableRows.{NodeSeat, content, edge_wire, edges_in, seen_as, test_sizes}
 
 -- the held node n, with what it sees of each edge and the content of the edge's slot
-pub record Sees (n : ℕ) (f : ℕ → Flags) (y : ℕ → Option Bool) (t : Identity)
+pub record SeesEdges (n : ℕ) (f : ℕ → Flags) (y : ℕ → Option Bool) (t : Identity)
     (s : NodeSeat) : Type 0 where
-  pub sizes : t.sizes ≡ sizes_of true
+  pub sizes : t.sizes ≡ test_sizes true
   pub seat : IsSeatOf t s
   pub number : (view s).number ≡ n
   pub held : (view s).state.held ≡ true

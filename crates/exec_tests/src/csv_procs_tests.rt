@@ -35,9 +35,9 @@ fn script_of(alloc: Global, text: &str) -> Result<List<Fake>, AllocError>
     Ok(List::from_vec(vec![in alloc; Fake { call, kind }]?))
 }
 
-// Sources over one file, `f`, which is told by a script and its bytes, and the parts that they are
-// loaded with, of one column: the path, the type, the rows of a chunk, and a heading.
-fn blank(alloc: Global, case: &str) -> Result<Box<dyn Processor + Send>, Fail> {
+/// Sources over one file, `f`, which is told by a script and its bytes, and the parts that they are
+/// loaded with, of one column: the path, the type, the rows of a chunk, and a heading.
+pub(crate) fn blank(alloc: Global, case: &str) -> Result<Box<dyn Processor + Send>, Fail> {
     let (kind, rest) = halves(halves(case, '/').0, ' ');
     let (script, text) = halves(rest, ' ');
     let entry = FileEntry {
@@ -52,7 +52,8 @@ fn blank(alloc: Global, case: &str) -> Result<Box<dyn Processor + Send>, Fail> {
     }
 }
 
-fn spec(alloc: Global, made: &str, words: &str) -> Result<Spec, Fail> {
+/// What it is loaded with.
+pub(crate) fn spec(alloc: Global, made: &str, words: &str) -> Result<Spec, Fail> {
     let (path, rest) = halves(words, ' ');
     let (letter, rest) = halves(rest, ' ');
     let (rows, header) = halves(rest, ' ');

@@ -44,9 +44,9 @@ pub(crate) fn chunk_of(alloc: Global, letters: &str, rows: &str) -> Result<Chunk
     }
 }
 
-// Each row's first value, of a joined row the first of either half, and a blank; of many rows their
-// number.
-fn show(text: &mut String, chunk: &Chunk) -> Result<(), Fail> {
+/// Each row's first value, of a joined row the first of either half, and a blank; of many rows
+/// their number.
+pub(crate) fn show(text: &mut String, chunk: &Chunk) -> Result<(), Fail> {
     let rows = chunk.rows();
     if rows > 9 {
         return Ok(write!(text, "{rows} rows")?);
@@ -77,7 +77,8 @@ fn show_bytes(text: &mut String, bytes: &Bytes) -> Result<(), AllocError> {
     Ok(())
 }
 
-fn show_fault(text: &mut String, fault: WorkFault) -> Result<(), AllocError> {
+/// A fault in a word, and of a bad place its row, and its column or the number of its fields.
+pub(crate) fn show_fault(text: &mut String, fault: WorkFault) -> Result<(), AllocError> {
     let WorkFault::Bad(BadPlace { row, field }) = fault else {
         return write!(text, "{fault:?}");
     };

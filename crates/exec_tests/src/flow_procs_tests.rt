@@ -26,9 +26,9 @@ fn items(alloc: Global) -> Result<List<Expr>, Fail> {
     Ok(List::from_vec(items))
 }
 
-// A box of a kind: it passes rows above 5, gives the items, five numbers in chunks of two, or so
-// many rows behind so many others.
-fn blank(alloc: Global, case: &str) -> Result<Box<dyn Processor + Send>, Fail> {
+/// A box of a kind: it passes rows above 5, gives the items, five numbers in chunks of two, or so
+/// many rows behind so many others.
+pub(crate) fn blank(alloc: Global, case: &str) -> Result<Box<dyn Processor + Send>, Fail> {
     match halves(case, '/').0 {
         "Filter" => Ok(Box::new(alloc, Filter::new(alloc))?),
         "Expression" => Ok(Box::new(alloc, Expression::new(alloc))?),
@@ -39,7 +39,8 @@ fn blank(alloc: Global, case: &str) -> Result<Box<dyn Processor + Send>, Fail> {
     }
 }
 
-fn spec(alloc: Global, made: &str, words: &str) -> Result<Spec, Fail> {
+/// What it is loaded with.
+pub(crate) fn spec(alloc: Global, made: &str, words: &str) -> Result<Spec, Fail> {
     let (count, skip) = halves(words, ' ');
     Ok(match made {
         "Filter" => {

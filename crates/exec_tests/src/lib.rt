@@ -5,6 +5,8 @@
 #![tactic(auto)]
 
 #[cfg(test)]
+mod chains;
+#[cfg(test)]
 mod csv_procs_tests;
 #[cfg(test)]
 mod driven;
@@ -16,6 +18,10 @@ mod exec_graph_tests;
 mod flow_procs_tests;
 #[cfg(test)]
 mod join_proc_tests;
+#[cfg(test)]
+mod node_ends_tests;
+#[cfg(test)]
+mod node_workers_tests;
 #[cfg(test)]
 mod pipeline_exec_tests;
 #[cfg(test)]

@@ -10,8 +10,8 @@ use pipeline_exec::{ExecEnd, GrowthFlaw, RunResult, run_graph};
 use proc_api::{Processor, Status, WorkFault};
 use query_model::processor_spec::{Kind, Spec};
 use std::alloc::Global;
-use std::sync::Arc;
 use std::sync::atomic::{AtomicBool, AtomicU64, Ordering};
+use std::sync::{Arc, Wait};
 use std::test::Fail;
 use std::thread::Threads;
 
@@ -40,6 +40,23 @@ pub(crate) fn loaded(
     }
 }
 
+/// Adds the box as a node of the rank.
+pub(crate) fn place(
+    builder: &mut GraphBuilder,
+    b: Box<dyn Processor + Send>,
+    rank: u32,
+) -> Result<(), Fail>
+    requires { IsFresh (seen b) }
+    ensures { OnOk result
+        (AreStarting builder.old.reserves (map (λ b. seen b) builder.old.boxes.items)
+        → AreStarting builder.new.reserves (map (λ b. seen b) builder.new.boxes.items)) }
+{
+    match builder.add(b, rank) {
+        Ok(_) => Ok(()),
+        Err(_) => Err("a node was not added".into()),
+    }
+}
+
 /// Loads the box, and adds it as a node of the rank.
 pub(crate) fn add(
     alloc: Global,
@@ -51,15 +68,10 @@ pub(crate) fn add(
         (AreStarting builder.old.reserves (map (λ b. seen b) builder.old.boxes.items)
         → AreStarting builder.new.reserves (map (λ b. seen b) builder.new.boxes.items)) }
 {
-    let b = match loaded(alloc, b) {
-        Ok(b) => b,
-        Err(fail) => return Err(fail),
-    };
-    match builder.add(b, rank) {
-        Ok(_) => {}
-        Err(_) => return Err("a node was not added".into()),
+    match loaded(alloc, b) {
+        Ok(b) => place(builder, b, rank),
+        Err(fail) => Err(fail),
     }
-    Ok(())
 }
 
 /// Whether the node is there; nothing is reserved here.
@@ -71,8 +83,8 @@ pub(crate) fn is_added(builder: &GraphBuilder, node: u32) -> bool
     (node as usize) < builder.ranks.len() && builder.reserves.len() == 0
 }
 
-// Adds an edge between the first ports of two nodes.
-fn connect(builder: &mut GraphBuilder, from: u32, to: u32) -> Result<(), Fail>
+/// Adds an edge between the first ports of two nodes.
+pub(crate) fn connect(builder: &mut GraphBuilder, from: u32, to: u32) -> Result<(), Fail>
     ensures boxes { builder.new.boxes.items ≡ builder.old.boxes.items }
     ensures reserves { builder.new.reserves ≡ builder.old.reserves }
 {
@@ -87,7 +99,7 @@ fn connect(builder: &mut GraphBuilder, from: u32, to: u32) -> Result<(), Fail>
 
 // Runs the boxes, of which the next is the last of the list: those of a chain have ranks that rise,
 // and in a row of pairs each second one is joined to the one before it.
-fn run_boxes<R: AllocGlobal + Threads + Sync>(
+fn run_boxes<R: AllocGlobal + Threads + Wait + Sync>(
     rt: &R,
     boxes: Vec<Box<dyn Processor + Send>>,
     chain: bool,
@@ -112,7 +124,7 @@ fn run_boxes<R: AllocGlobal + Threads + Sync>(
     run_built(rt, builder, workers)
 }
 
-fn run_built<R: AllocGlobal + Threads + Sync>(
+fn run_built<R: AllocGlobal + Threads + Wait + Sync>(
     rt: &R,
     builder: GraphBuilder,
     workers: u32,
@@ -144,7 +156,7 @@ fn all_boxes_of_256_nodes_come_back(rt: HostRuntime) -> Result<(), Fail> {
     Ok(())
 }
 
-// The numbers are never asked for, so their box is never prepared.
+// The numbers are never asked for, so their box is prepared at the end of the run alone.
 #[test]
 fn a_box_that_asks_for_nothing_is_named(rt: HostRuntime) -> Result<(), Fail> {
     let mut boxes: Vec<Box<dyn Processor + Send>> = Vec::new(rt.alloc());
@@ -159,7 +171,7 @@ fn a_box_that_asks_for_nothing_is_named(rt: HostRuntime) -> Result<(), Fail> {
     };
     assert_eq!(rt; node, 1);
     assert_eq!(rt; report.len(), 3);
-    assert_eq!(rt; report.get(0).last, None);
+    assert_eq!(rt; report.get(0).last, Some(Status::PortFull));
     assert_eq!(rt; report.get(1).last, Some(Status::NeedData));
     assert_eq!(rt; report.get(2).last, Some(Status::NeedData));
     Ok(())
@@ -212,7 +224,7 @@ fn blanks_of(
 }
 
 // Runs a box alone that grows, with a reserve of the blanks and an edge.
-fn run_growing<R: AllocGlobal + Threads + Sync>(
+fn run_growing<R: AllocGlobal + Threads + Wait + Sync>(
     rt: &R,
     growing: Box<dyn Processor + Send>,
     blanks: Vec<Box<dyn Processor + Send>>,

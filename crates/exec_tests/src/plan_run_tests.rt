@@ -10,6 +10,7 @@ use proc_api::{Processor, Rack, WorkFault};
 use query_model::processor_spec::{Kind, Spec};
 use std::alloc::{AllocError, Global};
 use std::process::Abort;
+use std::sync::Wait;
 use std::test::Fail;
 use std::thread::Threads;
 
@@ -61,7 +62,7 @@ fn pair_wires(alloc: Global) -> Result<List<Wire>, AllocError>
 }
 
 /// Runs a source and a collector.
-fn run_pair<R: Abort + AllocGlobal + Threads + Sync>(
+fn run_pair<R: Abort + AllocGlobal + Threads + Wait + Sync>(
     rt: &R,
     rack: &mut Rack,
 ) -> Result<Result<Vec<Chunk>, PlanFault>, Fail>
@@ -86,7 +87,7 @@ fn run_pair<R: Abort + AllocGlobal + Threads + Sync>(
 }
 
 /// Runs a source and a collector, which gives so many chunks.
-fn expect_rows<R: Abort + AllocGlobal + Threads + Sync>(
+fn expect_rows<R: Abort + AllocGlobal + Threads + Wait + Sync>(
     rt: &R,
     rack: &mut Rack,
     chunks: usize,

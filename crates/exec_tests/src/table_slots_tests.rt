@@ -1,8 +1,8 @@
 //! A test of slots and of steps at ports, at a table of two nodes and three edges.
 ghost use Rattle.std.specs.Prelude.{cond, true, false, Some, IfSome, IsTrue};
 ghost use Rattle.exec_table.specs.Seats.{identity_of};
-ghost use Rattle.exec_tests.specs.TableRows.{IsFirst};
-ghost use Rattle.exec_tests.specs.TableSlots.{Sees, both_out, both_seen, put};
+ghost use Rattle.exec_tests.specs.TableRows.{IsStartNode};
+ghost use Rattle.exec_tests.specs.TableSlots.{SeesEdges, both_out, both_seen, put};
 
 use crate::table_tests::{chunk, two_nodes};
 use chunk_data::Chunk;
@@ -12,8 +12,8 @@ use std::test::Fail;
 
 // Begins, and looks at the first two edges, whose slots the node then has.
 fn begins(table: &ExecTable, seat: &mut NodeSeat, has_data: bool) -> bool
-    requires { IsFirst true (cond has_data 1 0) (identity_of table.now) seat.old }
-    ensures { IsTrue result → Sees (cond has_data 1 0) (both_seen has_data) (both_out has_data)
+    requires { IsStartNode true (cond has_data 1 0) (identity_of table.now) seat.old }
+    ensures { IsTrue result → SeesEdges (cond has_data 1 0) (both_seen has_data) (both_out has_data)
         (identity_of table.now) seat.new }
 {
     let wanted = Flags {
@@ -29,7 +29,7 @@ fn begins(table: &ExecTable, seat: &mut NodeSeat, has_data: bool) -> bool
 
 // The producer pushes two chunks, which nobody needs yet, and finishes the third edge.
 fn gives_both(table: &ExecTable, seat: &mut NodeSeat, one: Chunk, other: Chunk) -> bool
-    requires { IsFirst true 0 (identity_of table.now) seat.old }
+    requires { IsStartNode true 0 (identity_of table.now) seat.old }
 {
     if !begins(table, seat, false) {
         return false;
@@ -42,8 +42,9 @@ fn gives_both(table: &ExecTable, seat: &mut NodeSeat, one: Chunk, other: Chunk) 
 
 // The consumer lifts two chunks.
 fn lifts_both(table: &ExecTable, seat: &mut NodeSeat) -> Option<(Chunk, Chunk)>
-    requires { IsFirst true 1 (identity_of table.now) seat.old }
-    ensures { IfSome result (λ _. Sees 1 (both_seen true) (put (put (both_out true) 0 (Some false))
+    requires { IsStartNode true 1 (identity_of table.now) seat.old }
+    ensures { IfSome result
+        (λ _. SeesEdges 1 (both_seen true) (put (put (both_out true) 0 (Some false))
         1 (Some false)) (identity_of table.now) seat.new) }
 {
     if !begins(table, seat, true) {
@@ -57,7 +58,7 @@ fn lifts_both(table: &ExecTable, seat: &mut NodeSeat) -> Option<(Chunk, Chunk)>
 // It wants a third, before it pulls both. Then it takes its need back and closes the port, whose
 // producer has finished.
 fn takes_both(table: &ExecTable, seat: &mut NodeSeat) -> Option<(Chunk, Chunk)>
-    requires { IsFirst true 1 (identity_of table.now) seat.old }
+    requires { IsStartNode true 1 (identity_of table.now) seat.old }
 {
     let Some(both) = lifts_both(table, seat) else {
         return None;

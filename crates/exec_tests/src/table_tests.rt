@@ -1,9 +1,9 @@
 //! Tests of the execution table.
 ghost use Rattle.std.specs.Prelude.{◌≡◌, ℕ, true, false, [], map, IfOk, IfSome, IsTrue};
 ghost use Rattle.core_laws.specs.Views.{has};
-ghost use Rattle.exec_table.specs.Made.{IsMade};
+ghost use Rattle.exec_table.specs.Made.{IsNewTable};
 ghost use Rattle.exec_table.specs.Seats.{IsRootOf, IsSeatOf, identity_of, view};
-ghost use Rattle.exec_tests.specs.TableRows.{Is, IsFirst, IsHeld, Saw, edge_wire, edges_in, node, seen_as};
+ghost use Rattle.exec_tests.specs.TableRows.{Is, IsHeld, IsStartNode, Saw, edge_wire, edges_in, node, seen_as};
 
 use chunk_data::{Chunk, ColumnType, List, Value};
 use core_laws::{Flags, Reserve, Sizes, Wire};
@@ -25,7 +25,7 @@ fn wire(from: u32, out: u32, to: u32, input: u32) -> Wire
 /// Two producers, two consumers that nobody has woken yet, and the room for one growth.
 fn five_nodes(rt: &HostRuntime) -> Result<Made, Fail>
     ensures { IfOk result (λ m. (m.table.table.shared.key.workers ≡ 1)
-        × IsMade m.table.table.shared.key m) }
+        × IsNewTable m.table.table.shared.key m) }
 {
     let wires = List::from_vec(vec![in rt.alloc(); wire(0, 0, 2, 0), wire(1, 0, 3, 0)]?);
     let reserve = Reserve {
@@ -77,8 +77,8 @@ pub(crate) fn two_nodes(
     rt: &HostRuntime,
     many: bool,
 ) -> Result<(ExecTable, NodeSeat, NodeSeat, RootSeat), Fail>
-    ensures zero { IfOk result (λ p. IsFirst many 0 (identity_of p.0) p.1) }
-    ensures one { IfOk result (λ p. IsFirst many 1 (identity_of p.0) p.2) }
+    ensures zero { IfOk result (λ p. IsStartNode many 0 (identity_of p.0) p.1) }
+    ensures one { IfOk result (λ p. IsStartNode many 1 (identity_of p.0) p.2) }
     ensures root { IfOk result (λ p. IsRootOf (identity_of p.0) p.3 × (p.3.seat.me.0.made ≡ 0)) }
 {
     let sizes = Sizes {
@@ -144,7 +144,7 @@ fn sees(table: &ExecTable, seat: &mut NodeSeat, needed: bool, has_data: bool) ->
 
 // Node 1 begins, wants a chunk and charges node 0.
 fn asks(table: &ExecTable, seat: &mut NodeSeat) -> bool
-    requires { IsFirst false 1 (identity_of table.now) seat.old }
+    requires { IsStartNode false 1 (identity_of table.now) seat.old }
     ensures { IsTrue result
         → Is 1 (node true 0 (seen_as true false) [] false) table.now seat.new }
 {
@@ -158,7 +158,7 @@ fn asks(table: &ExecTable, seat: &mut NodeSeat) -> bool
 
 // Node 0 begins, pushes the chunk that is needed and tells node 1, which is held.
 fn gives(table: &ExecTable, seat: &mut NodeSeat, chunk: Chunk) -> bool
-    requires { IsFirst false 0 (identity_of table.now) seat.old }
+    requires { IsStartNode false 0 (identity_of table.now) seat.old }
     ensures { IsTrue result
         → Is 0 (node true 1 (seen_as true true) [] false) table.now seat.new }
 {
@@ -247,7 +247,7 @@ fn a_chunk_passes_between_threads(rt: HostRuntime) -> Result<(), Fail> {
     let (given, taken) = join(
         &rt,
         ||
-            requires { IsFirst false 0 (identity_of table) zero }
+            requires { IsStartNode false 0 (identity_of table) zero }
         { gives(&table, &mut zero, chunk) && sees(&table, &mut zero, true, false) },
         ||
             requires { (k : ℕ) × IsHeld 1 k table one }

@@ -1,5 +1,5 @@
 ghost use Rattle.std.specs.Prelude.{◌≡◌, ℕ, ◌<◌, ◌∷◌, [], length, All, IfOk};
-ghost use Rattle.task_queue.specs.Numbers.{total};
+ghost use Rattle.task_queue.specs.Numbers.{total_over};
 ghost use Rattle.task_queue.specs.Queues.{IsPassOf};
 ghost use Rattle.task_queue.specs.Shelves.{parts, places, IsIdleSeatOf, AreAllIdle};
 ghost use Rattle.task_queue.specs.Values.{AllFit};
@@ -183,7 +183,7 @@ fn visit_in_threads<V: Visited + Send, R: Threads + Wait + Sync>(
     requires idle { All (IsIdleSeatOf shelf.now) seats.old }
     requires place { n < places shelf.now }
     ensures idle { All (IsIdleSeatOf shelf.now) seats.new }
-    ensures parts { total parts seats.new ≡ total parts seats.old }
+    ensures parts { total_over parts seats.new ≡ total_over parts seats.old }
 {
     for_each_mut(
         rt,

@@ -2,7 +2,7 @@
 //! is generic in the box and in what is named; only the outermost function says `Box<dyn ..>`.
 ghost use Rattle.std.specs.Prelude.{◌≡◌, ℕ, length, IfSome};
 ghost use Rattle.atomic_table.specs.Seated.{TableId};
-ghost use Rattle.exec_tests.specs.NamedCells.{Picture, IsAsNamed};
+ghost use Rattle.exec_tests.specs.NamedCells.{NamedBox, IsAsNamed};
 ghost use Rattle.task_queue.specs.Values.{AllFit};
 
 use super::{Visited, visit_by_all};
@@ -16,7 +16,7 @@ use task_queue::{Placed, Shelf};
 
 /// What lies in a cell behind a box.
 trait Worker: Drop + Send {
-    ghost seen: { Self → Picture };
+    ghost seen: { Self → NamedBox };
 
     fn kind(&self) -> u8
         ensures { result ≡ (seen self.now).kind };
@@ -48,13 +48,13 @@ impl Worker for Box<dyn Worker + Send> {
 trait Naming {
     ghost table: { TableId };
 
-    ghost named: { ℕ → Picture };
+    ghost named: { ℕ → NamedBox };
 }
 
 impl Naming for Brand {
-    ghost use Rattle.exec_tests.specs.NamedCells.{no_table, counter};
+    ghost use Rattle.exec_tests.specs.NamedCells.{no_table_id, counter};
 
-    ghost table = { no_table };
+    ghost table = { no_table_id };
 
     ghost named = { λ n. counter 0 0 };
 }
@@ -90,9 +90,10 @@ struct NamedCell<P: Worker, J: Naming> {
 }
 
 impl<P: Worker, J: Naming> Placed for NamedCell<P, J> {
-    ghost use Rattle.exec_tests.specs.NamedCells.{CellFits};
+    ghost use Rattle.exec_tests.specs.NamedCells.{NamedCellFits};
 
-    ghost fits = { λ c n. CellFits J.table J.named c.seat.table_id c.number (P.seen c.worker) n };
+    ghost fits = { λ c n. NamedCellFits J.table J.named c.seat.table_id c.number (P.seen c.worker)
+        n };
 }
 
 impl<P: Worker, J: Naming> Visited for NamedCell<P, J> {

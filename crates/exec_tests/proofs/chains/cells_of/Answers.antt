@@ -1,0 +1,21 @@
+use Rattle.std.proofs.Common.{length, rules, ◌≡◌}
+use Rattle.std.proofs.lemmas.List.{nil_from_length}
+use Rattle.exec_tests.proofs.EndedCells.{graph-of}
+use Rattle.node_ends.proofs.NewCells.{new-cells}
+use Rattle.node_workers.proofs.NewCells.{new-stored}
+use Rattle.exec_tests.proofs.chains.cells_of.Goals as goal
+
+pub returns-in-Ok-into_cells-clause-stored : goal.returns-in-Ok-into_cells-clause-stored
+returns-in-Ok-into_cells-clause-stored g c =
+    let graph = c.in-Ok.graph in
+    new-stored _ graph.boxes.items graph.wires graph.reserves c.args.workers _
+    (graph-of _ graph.ranks graph.wires graph.reserves graph.well_formed graph.one_each
+    graph.reserves_fit) c.in-Ok-into_cells.ensures.cells
+
+pub returns-in-Ok-into_cells-clause-cells : goal.returns-in-Ok-into_cells-clause-cells
+returns-in-Ok-into_cells-clause-cells g c =
+    let graph = c.in-Ok.graph in
+    let none : length graph.reserves ≡ 0 = search rules in
+    new-cells _ graph.boxes.items graph.wires graph.reserves c.args.workers _
+    (graph-of _ graph.ranks graph.wires graph.reserves graph.well_formed graph.one_each
+    graph.reserves_fit) (nil_from_length graph.reserves none) c.in-Ok-into_cells.ensures.cells
