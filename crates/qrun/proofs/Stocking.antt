@@ -8,7 +8,8 @@ use Rattle.query_model.specs.Database.{Files}
 use Rattle.query_model.specs.declared.processor_spec.Kind.{Kind}
 use Rattle.query_model.specs.declared.processor_spec.Kind.TheVariants as kind
 use Rattle.proc_api.specs.Names.{BoxPicture, IsBlank, IsSourceKind, IsUnloadedProcessor, is_of, same_kind}
-use Rattle.query_run.specs.Racks.{AreLawfulOver, HasStandardStock, IsHonest, stock_of}
+use Rattle.proc_api.specs.KindRows.{stock_of}
+use Rattle.query_run.specs.Racks.{AreLawfulOver, HasStandardStock, IsHonest}
 use Rattle.qrun.specs.declared.racks.TheConstants.{LISTS, OTHERS, SOURCES}
 use Rattle.qrun.specs.Stocking.{with_each, with_more, Adds, AddsEach, AddsTold, IsServing, IsStocked}
 

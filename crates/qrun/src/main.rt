@@ -20,6 +20,7 @@ use query_run::run;
 use std::env;
 use std::io::ErrorKind;
 use std::process::ExitCode;
+use std::sync::Wait;
 use std::thread::Threads;
 
 /// The exit status where memory ran out.
@@ -35,7 +36,10 @@ fn main(rt: HostRuntime) -> ExitCode {
     }
 }
 
-fn status_of<R: AllocGlobal + Threads + Sync>(rt: &HostRuntime, threads: &R) -> Result<u8, Memory> {
+fn status_of<R: AllocGlobal + Threads + Wait + Sync>(
+    rt: &HostRuntime,
+    threads: &R,
+) -> Result<u8, Memory> {
     let words = words_of(rt)?;
     run_words(rt, threads, words.as_slice())
 }
@@ -59,7 +63,7 @@ fn words_of(rt: &HostRuntime) -> Result<Vec<String>, Memory> {
 
 // Runs the words by the boxes of the standard rack, over files of the system. The boxes are made
 // here, where they lie: a function that hands out a box that it made could say anything of it.
-fn run_words<R: AllocGlobal + Threads + Sync>(
+fn run_words<R: AllocGlobal + Threads + Wait + Sync>(
     rt: &HostRuntime,
     threads: &R,
     words: &[String],
@@ -104,7 +108,7 @@ fn run_words<R: AllocGlobal + Threads + Sync>(
 }
 
 // That a box is blank is lost where it is made one of any kind, so that each is unloaded first.
-fn run_blank<R: AllocGlobal + Threads + Sync, O: Sink, E: Sink>(
+fn run_blank<R: AllocGlobal + Threads + Wait + Sync, O: Sink, E: Sink>(
     rt: &R,
     words: &[String],
     rack: &mut Rack,

@@ -30,8 +30,8 @@ use proc_api::{Growth, LoadRefusal, Processor, Rack, Status, Wake, WorkFault};
 use query_model::processor_spec::{Kind, Spec};
 use query_run::run;
 use std::alloc::{AllocError, Global};
-use std::sync::Arc;
 use std::sync::atomic::{AtomicU64, Ordering};
+use std::sync::{Arc, Wait};
 use std::test::Fail;
 use std::thread::Threads;
 
@@ -287,7 +287,7 @@ fn put_told(
 }
 
 /// Adds a source of parts, or of lists of them.
-fn add_told<R: AllocGlobal + Threads + Sync>(
+fn add_told<R: AllocGlobal + Threads + Wait + Sync>(
     rt: &R,
     rack: &mut Rack,
     files: &List<FileEntry>,
@@ -316,7 +316,7 @@ fn add_told<R: AllocGlobal + Threads + Sync>(
 }
 
 /// Adds so many sources of the kind.
-fn add_told_sources<R: AllocGlobal + Threads + Sync>(
+fn add_told_sources<R: AllocGlobal + Threads + Wait + Sync>(
     rt: &R,
     rack: &mut Rack,
     files: &List<FileEntry>,
@@ -335,7 +335,7 @@ fn add_told_sources<R: AllocGlobal + Threads + Sync>(
 }
 
 /// The words over the standard rack, or over one of boxes of these letters.
-fn run_setting<R: AllocGlobal + Threads + Sync>(
+fn run_setting<R: AllocGlobal + Threads + Wait + Sync>(
     rt: &R,
     words: &[String],
     files: &List<FileEntry>,
@@ -366,7 +366,7 @@ fn run_setting<R: AllocGlobal + Threads + Sync>(
     )
 }
 
-fn run_stocked<R: AllocGlobal + Threads + Sync>(
+fn run_stocked<R: AllocGlobal + Threads + Wait + Sync>(
     rt: &R,
     words: &[String],
     files: &List<FileEntry>,
@@ -386,7 +386,7 @@ fn run_stocked<R: AllocGlobal + Threads + Sync>(
 }
 
 /// Runs by a rack that is the standard one or not.
-fn run_shown<R: AllocGlobal + Threads + Sync>(
+fn run_shown<R: AllocGlobal + Threads + Wait + Sync>(
     rt: &R,
     words: &[String],
     rack: &mut Rack,
@@ -411,7 +411,7 @@ fn run_shown<R: AllocGlobal + Threads + Sync>(
 }
 
 /// A run by a rack that is honest of the files: what was written is an answer's text over them.
-fn run_honest<R: AllocGlobal + Threads + Sync, O: Sink, E: Sink>(
+fn run_honest<R: AllocGlobal + Threads + Wait + Sync, O: Sink, E: Sink>(
     rt: &R,
     words: &[String],
     rack: &mut Rack,
@@ -432,7 +432,7 @@ fn run_honest<R: AllocGlobal + Threads + Sync, O: Sink, E: Sink>(
     run(rt, words, rack, out, err)
 }
 
-fn status_by<R: AllocGlobal + Threads + Sync, O: Sink, E: Sink>(
+fn status_by<R: AllocGlobal + Threads + Wait + Sync, O: Sink, E: Sink>(
     rt: &R,
     words: &[String],
     rack: &mut Rack,
@@ -453,7 +453,7 @@ fn status_by<R: AllocGlobal + Threads + Sync, O: Sink, E: Sink>(
     }
 }
 
-fn outcome_of<R: AllocGlobal + Threads + Sync>(
+fn outcome_of<R: AllocGlobal + Threads + Wait + Sync>(
     rt: &R,
     words: &[String],
     rack: &mut Rack,

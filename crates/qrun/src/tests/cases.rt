@@ -16,6 +16,7 @@ use outside_io::FileEntry;
 use std::alloc::Global;
 use std::process::Abort;
 use std::str::from_utf8;
+use std::sync::Wait;
 use std::test::Fail;
 use std::thread::Threads;
 
@@ -40,7 +41,7 @@ const USAGE: &str =
     "qrun: usage: qrun --query QUERY [--tables TABLES] [--threads N] [--chunk N] [--header]\n";
 
 /// By each size each case's run gave what the case tells.
-pub(super) fn check_cases<R: AllocGlobal + Threads + Sync>(
+pub(super) fn check_cases<R: AllocGlobal + Threads + Wait + Sync>(
     rt: &R,
     abort: &impl Abort,
     cases: &[&str],
@@ -55,7 +56,7 @@ pub(super) fn check_cases<R: AllocGlobal + Threads + Sync>(
 }
 
 /// The case's runs gave what it tells.
-pub(super) fn check_case<R: AllocGlobal + Threads + Sync>(
+pub(super) fn check_case<R: AllocGlobal + Threads + Wait + Sync>(
     rt: &R,
     abort: &impl Abort,
     case: &str,
@@ -75,7 +76,7 @@ pub(super) fn check_case<R: AllocGlobal + Threads + Sync>(
 }
 
 // The runs of the query over the tables and the parts.
-fn run_case<R: AllocGlobal + Threads + Sync>(
+fn run_case<R: AllocGlobal + Threads + Wait + Sync>(
     rt: &R,
     (tables, query, parts): (&str, &str, &str),
     stock: Option<&str>,

@@ -18,8 +18,8 @@ use outside_io::{Fake, FakeKind, FileEntry, FileReader, MemFiles};
 use proc_api::Rack;
 use query_model::processor_spec::Kind;
 use std::alloc::{AllocError, Global};
-use std::sync::Arc;
 use std::sync::atomic::{AtomicU64, Ordering};
+use std::sync::{Arc, Wait};
 use std::test::Fail;
 use std::thread::Threads;
 
@@ -211,7 +211,7 @@ fn two_sources_meet_at_work(rt: HostRuntime) -> Result<(), Fail> {
     Ok(())
 }
 
-fn run_marked<R: AllocGlobal + Threads + Sync>(
+fn run_marked<R: AllocGlobal + Threads + Wait + Sync>(
     rt: &R,
     words: &[String],
     files: &List<FileEntry>,
@@ -225,7 +225,7 @@ fn run_marked<R: AllocGlobal + Threads + Sync>(
 }
 
 /// Adds a source that marks its calls so.
-fn put_marking<R: AllocGlobal + Threads + Sync>(
+fn put_marking<R: AllocGlobal + Threads + Wait + Sync>(
     rt: &R,
     rack: &mut Rack,
     files: &List<FileEntry>,
