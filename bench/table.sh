@@ -46,7 +46,7 @@ kept tokens 1 seat
 kept looks 1 seat
 cat >"$crate/proofs/two_nodes/Answers.antt" <<'END'
 use Rattle.std.specs.Option.{option_to_list}
-use Rattle.table_bench.proofs.TableRows.{ap, dealt, ◌++◌, ◌∙◌}
+use Rattle.table_bench.proofs.TableRows.{ap, dealt_are_open as dealt, ◌++◌, ◌∙◌}
 use Rattle.table_bench.proofs.two_nodes.Goals as goal
 
 pub returns : goal.returns
@@ -63,7 +63,7 @@ returns g c = let m = c.in-Ok-make.ensures in let both = dealt c.in-Ok-make.made
 END
 cat >"$crate/proofs/begin/Answers.antt" <<'END'
 use Rattle.core_laws.specs.declared.types.Step.TheVariants as step
-use Rattle.table_bench.proofs.TableRows.{Charged, Want, ap, begun, can, can-act, marked_of, marked_peer, refl, rules, stepped, ◌≡◌}
+use Rattle.table_bench.proofs.TableRows.{Charged, Want, ap, begin_keeps_token as begun, can, can-act, marked_of, marked_peer, refl, rules, stepped, ◌≡◌}
 use Rattle.table_bench.proofs.begin.Goals as goal
 
 pub sees-requires : goal.sees-requires
@@ -118,12 +118,13 @@ returns c = λ t. let q : c.mark.result ≡ AlreadyDue = search rules in let is 
     record { flags = _; unlooked = _; only = refl; is = is }
 END
 cat >"$crate/proofs/takes/Answers.antt" <<'END'
-use Rattle.core_laws.specs.Views.{flags_at, is_end, knows, no_wire}
+use Rattle.core_laws.specs.Views.{flags_at, is_end, knows}
+use Rattle.port_word.specs.Pictures.{no_wire}
 use Rattle.core_laws.specs.Steps.{allows, nothing}
 use Rattle.core_laws.specs.declared.types.Step.TheVariants as step
 use Rattle.exec_table.proofs.Known.{wire-made}
 use Rattle.exec_table.specs.CoreNames.{NodeState, Wire}
-use Rattle.exec_table.specs.Seats.{IsSeatOf, Makes}
+use Rattle.exec_table.specs.Seats.{IsSeatOf, MakesStep}
 use Rattle.exec_table.specs.declared.rule.ExecTable.{ExecTable}
 use Rattle.exec_table.specs.declared.rule.NodeSeat.{NodeSeat}
 use Rattle.exec_table.specs.declared.types.NodeView.{NodeView}
@@ -143,7 +144,7 @@ pull-requires-clause-ready c = subst (λ x. can_act Pull x 0 ≡ true)
 
 -- after a chunk was lifted and pulled
 pulled : {t : ExecTable} {s lifted new : NodeSeat} → Saw 1 1 (seen_as true true) t s
-    → IsSeatOf t lifted → view lifted ≡ view s → Makes t lifted new (step.Pull 0) None nothing
+    → IsSeatOf t lifted → view lifted ≡ view s → MakesStep t lifted new (step.Pull 0) None nothing
     → Is 1 (node true 1 (seen_as true false) [] true) t new
 pulled {t = t} {lifted = lifted} w of same m = let is : Is 1 (node true 1
     (seen_as true true) [] false) t lifted = record {
@@ -154,7 +155,7 @@ pulled {t = t} {lifted = lifted} w of same m = let is : Is 1 (node true 1
     } in stepped is m refl
 
 wants : {t : ExecTable} {lifted new : NodeSeat} → IsSeatOf t lifted
-    → Makes t lifted new (step.Pull 0) None nothing
+    → MakesStep t lifted new (step.Pull 0) None nothing
     → Is 1 (node true 1 (seen_as true false) [] true) t new → can_act Want (view new) 0 ≡ true
 wants of m is = let wire = wire-made of m 0 (ap (λ (z : NodeState). knows 0 z.seen) is.state)
     (let l = ap (λ z. length z.wires) is.pair in omega (arith, l))
