@@ -1,10 +1,14 @@
-use Rattle.std.proofs.Common.{◌≡◌, ℕ, zero, suc, ◌<◌, [], ◌∷◌, true, refl, sym, subst, arith, nat_le, length}
+use Rattle.std.proofs.Common.{◌≡◌, ℕ, zero, suc, ◌<◌, ◌≤◌, List, rules, [], ◌∷◌, true, refl, sym, subst, arith, nat_le, length, map}
 use Rattle.port_word.specs.declared.flags.Wire.{Wire}
 use Rattle.proc_api.specs.Names.{IsEdge, IsGraph, is_gapless}
 use Rattle.proc_api.specs.Settled.{wire_at}
 use Rattle.proc_api.specs.Graphs.{rank_at}
 use Rattle.proc_api.specs.Reserves.{AreReserves, IsAdded, is_reserved}
 use Rattle.plan_run.specs.Plans.{KeepsBehind}
+use Rattle.plan_run.specs.Stock.{HasStock}
+use Rattle.proc_api.specs.Names.{BoxPicture, is_of}
+use Rattle.query_model.specs.declared.processor_spec.Kind.TheVariants as kind
+use Rattle.std.specs.List.{count_by}
 use Rattle.exec_tests.proofs.plan_run_tests.run_pair.Goals as goal
 
 abbrev wire : Wire
@@ -70,3 +74,28 @@ run_plan-requires-clause-graph g c κs lives =
     omega (arith, c.in_ok-push-2.ensures.len, c.in_ok-push.ensures.len, c.new-specs.ensures.len) in
     rw two (rw c.in_ok-pair_ranks.ensures (rw c.in_ok-pair_wires.ensures (rw c.new-2.ensures
     keeps_behind)))
+
+has_pair : (boxes : List BoxPicture) {sources collectors : ℕ}
+    → sources ≡ count_by (is_of kind.Csv) boxes → collectors ≡ count_by (is_of kind.Collect) boxes
+    → 1 ≤ sources → 1 ≤ collectors → HasStock (kind.Csv ∷ kind.Collect ∷ []) boxes
+has_pair boxes s c source collector kind.Csv = omega (arith, s, source)
+has_pair boxes s c source collector kind.List = omega arith
+has_pair boxes s c source collector kind.Numbers = omega arith
+has_pair boxes s c source collector kind.Filter = omega arith
+has_pair boxes s c source collector kind.Expression = omega arith
+has_pair boxes s c source collector kind.Resize = omega arith
+has_pair boxes s c source collector kind.PartialAggregate = omega arith
+has_pair boxes s c source collector kind.MergeAggregate = omega arith
+has_pair boxes s c source collector kind.HashJoin = omega arith
+has_pair boxes s c source collector kind.Sort = omega arith
+has_pair boxes s c source collector kind.MergeSorted = omega arith
+has_pair boxes s c source collector kind.Limit = omega arith
+has_pair boxes s c source collector kind.Collect = omega (arith, c, collector)
+
+pub run_plan-requires-clause-stock : goal.run_plan-requires-clause-stock
+run_plan-requires-clause-stock g c κs lives k =
+    let boxes = map (λ b. (goal.Processor-dyn g (b.vtable, b.value)).seen b.value)
+    c.args.rack.now.boxes.items in
+    rw c.in_ok-push-2.ensures.items (rw c.in_ok-push.ensures.items (rw c.new-specs.ensures.items
+    (rw c.new.ensures
+    (has_pair boxes c.count.ensures c.count-2.ensures (search rules) (search rules) k))))
