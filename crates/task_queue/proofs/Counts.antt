@@ -107,6 +107,12 @@ times-both_without n view all ns same front one m = let f = ap (times n) front i
     (λ e. let a = times-without-other m n view e in let b = same m in let g = ap (times m) front in
     let k = hit_other m n e in omega arith)
 
+-- n, which stood in neither list, joins one and leaves it
+pub times-taken_and_left : (n : ℕ) (view all : List ℕ) → ((m : ℕ) → times m view ≡ times m all)
+    → times n all ≡ 0 → (m : ℕ) → times m (without_each n (n ∷ view)) ≡ times m all
+times-taken_and_left n view all same none = times-both_without n (n ∷ view) (n ∷ all) all
+    (λ m. let k = same m in omega arith) refl (let h = hit_same n in omega arith)
+
 -- a number that joins an empty list stands there once
 pub times-single : (n : ℕ) (old now : List ℕ) → now ≡ n ∷ old → old ≡ [] → times n now ≡ 1
 times-single n old now is bare =

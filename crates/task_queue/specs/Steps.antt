@@ -35,6 +35,15 @@ module _ {V : Type 0} where
     pub fitting : fits value n
     pub seat : m' ≡ (taking n m.0, (n, Some value) ∷ m.1)
 
+  -- the slot that the seat took last has a value that fits its place n
+  pub record LiesFirst
+      (fits : V → ℕ → Type 0)
+      (n : ℕ)
+      (m : Me (Option V) Holding) : Type 0 where
+    pub value : V
+    pub fitting : fits value n
+    pub first : m.1 ≡ (n, Some value) ∷ rest m.1
+
   -- where the word was 1, the value of its place was taken
   pub record Claims
       (fits : V → ℕ → Type 0)

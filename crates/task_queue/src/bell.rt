@@ -7,6 +7,9 @@ use std::time::Duration;
 /// rests on a ring.
 const LONGEST_SLEEP: u64 = 2;
 
+/// The longest nap, in microseconds. To fall asleep and wake costs up to nine.
+const LONGEST_NAP: u64 = 400;
+
 /// How many counts a sleep can tell from each other.
 const COUNTS: u64 = 4_294_967_296;
 
@@ -50,9 +53,17 @@ impl Bell {
 
     /// Sleeps until the bell rings, if it wasn't rung since its count was read.
     pub fn sleep<R: Wait>(&self, rt: &R, count: u32) {
+        self.sleep_for(rt, count, Duration::from_millis(LONGEST_SLEEP));
+    }
+
+    /// Sleeps for a moment, where there is nothing to do but to look at devices once more.
+    pub fn nap<R: Wait>(&self, rt: &R) {
+        self.sleep_for(rt, self.count(), Duration::from_micros(LONGEST_NAP));
+    }
+
+    fn sleep_for<R: Wait>(&self, rt: &R, count: u32, longest: Duration) {
         self.sleepers.fetch_add(1, Ordering::SeqCst);
-        self.rung
-            .park_timeout(rt, count, Duration::from_millis(LONGEST_SLEEP));
+        self.rung.park_timeout(rt, count, longest);
         self.sleepers.fetch_sub(1, Ordering::SeqCst);
     }
 }

@@ -4,8 +4,8 @@
 //! A `TaskQueue` is used through passes. At every moment the numbers that were put through all
 //! passes are those that were taken through all passes and those that are left, each as often. A
 //! `Shelf` is used through seats. A seat takes the value of a place, which nobody else has until
-//! that seat puts it back. Whatever the threads do, the value at a place fits that place, as the
-//! trait `Placed` of its type says.
+//! that seat puts it back, or claims the place and works on the value where it lies. Whatever the
+//! threads do, the value at a place fits that place, as the trait `Placed` of its type says.
 //!
 //! - `queue.rt`: the queue, its rule and its passes
 //! - `bell.rt`: where those who find no number sleep
@@ -24,6 +24,6 @@ mod tasks;
 
 pub use bell::Bell;
 pub use queue::{QueuePass, TaskQueue};
-pub use seat::ShelfSeat;
+pub use seat::{Holding, ShelfSeat};
 pub use shelf::{Placed, Shelf};
 pub use tasks::WorkerTasks;

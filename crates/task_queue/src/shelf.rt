@@ -1,12 +1,14 @@
 //! The shelf and its calls.
-ghost use Rattle.std.specs.Prelude.{◌≡◌, ℕ, ◌<◌, ◌≤◌, ◌+◌, ◌^◌, ◌∷◌, [], length, IfOk, IfErr, IfSome, IfNone, OnErr};
+ghost use Rattle.std.specs.Prelude.{◌≡◌, ℕ, ◌<◌, ◌≤◌, ◌+◌, ◌^◌, ◌∷◌, [], length, true, false, IfOk, IfErr, OnErr};
 ghost use Rattle.std.specs.VecDeque.{deque_capacity};
+ghost use Rattle.atomic_table.specs.Table.{rest};
 ghost use Rattle.task_queue.specs.Rules.{all_shares};
+ghost use Rattle.task_queue.specs.Steps.{LiesFirst, Takes, leaving};
 ghost use Rattle.task_queue.specs.Values.{AllFit};
 
 use crate::layout::{SpareRoom, give_back, keep_room, lay_out, take_room, unload};
 use crate::seat::{Claim, Gather, GoHome, Holding, InPlace, Share, ShelfSeat};
-use atomic_table::{Refused, Table};
+use atomic_table::{Refused, Seat, Table};
 use crossbeam_utils::Backoff;
 use std::alloc::{AllocError, Global};
 use std::collections::VecDeque;
@@ -102,21 +104,47 @@ impl<V: Placed + Send> Shelf<V> {
         ShelfSeat { seat, held }
     }
 
-    // The value of place n, if it is at home.
-    fn try_take(&self, seat: &mut ShelfSeat<V>, n: u32) -> Option<V>
-        requires seat { IsSeatOf self.now seat.old }
+    // Claims place n, if its value is at home.
+    fn try_claim(&self, seat: &mut Seat<Option<V>, Holding>, n: u32) -> bool
+        requires seat { seat.old.table_id ≡ self.now.table.shared.table_id }
         requires place { n < places self.now }
-        requires lacks { Lacks seat.old n }
-        ensures same { IsSameSeat seat.old seat.new }
-        ensures taken { IfSome result (λ v. V.fits v n × (held seat.new ≡ n ∷ held seat.old)) }
-        ensures left { IfNone result (held seat.new ≡ held seat.old) }
+        requires share { 0 < seat.old.me.0.parts }
+        ensures same { seat.new.table_id ≡ seat.old.table_id }
+        ensures taken { result ≡ true → Takes V.fits seat.old.me n seat.new.me }
+        ensures left { result ≡ false → seat.new.me ≡ seat.old.me }
     {
         let shared = &self.table.shared;
-        if shared.compare_exchange::<Claim>(&mut seat.seat, n as usize + 1, 1, 0) != 1 {
-            return None;
+        shared.compare_exchange::<Claim>(seat, n as usize + 1, 1, 0) == 1
+    }
+
+    /// Claims place n, once its value is at home. The value stays where it lies, and nobody else
+    /// has it until the place is released.
+    pub fn claim<R: Wait>(&self, rt: &R, seat: &mut Seat<Option<V>, Holding>, n: u32)
+        requires seat { seat.old.table_id ≡ self.now.table.shared.table_id }
+        requires place { n < places self.now }
+        requires share { 0 < seat.old.me.0.parts }
+        ensures same { seat.new.table_id ≡ seat.old.table_id }
+        ensures taken { Takes V.fits seat.old.me n seat.new.me }
+    {
+        let backoff = Backoff::new();
+        for _ in rt.forever() {
+            if self.try_claim(seat, n) {
+                return;
+            }
+            backoff.snooze();
         }
-        seat.held.push_front_reserved(n);
-        shared.exchange(&mut seat.seat, n as usize, None)
+        unreachable!()
+    }
+
+    /// Lets place n go, which the seat claimed last. It waits for nobody.
+    pub fn release(&self, seat: &mut Seat<Option<V>, Holding>, n: u32)
+        requires seat { seat.old.table_id ≡ self.now.table.shared.table_id }
+        requires place { n < places self.now }
+        requires lies { LiesFirst V.fits n seat.old.me }
+        ensures same { seat.new.table_id ≡ seat.old.table_id }
+        ensures left { seat.new.me ≡ (leaving n seat.old.me.0, rest seat.old.me.1) }
+    {
+        self.table.shared.swap::<GoHome>(seat, n as usize + 1, 1);
     }
 
     /// Takes the value of place n, once it is at home.
@@ -128,14 +156,12 @@ impl<V: Placed + Send> Shelf<V> {
         ensures held { held seat.new ≡ n ∷ held seat.old }
         ensures fits { V.fits result n }
     {
-        let backoff = Backoff::new();
-        for _ in rt.forever() {
-            if let Some(value) = self.try_take(seat, n) {
-                return value;
-            }
-            backoff.snooze();
+        self.claim(rt, &mut seat.seat, n);
+        seat.held.push_front_reserved(n);
+        match self.table.shared.exchange(&mut seat.seat, n as usize, None) {
+            Some(value) => value,
+            None => unreachable!(),
         }
-        unreachable!()
     }
 
     /// Puts the value of place n home. It waits for nobody.
@@ -148,12 +174,15 @@ impl<V: Placed + Send> Shelf<V> {
     {
         seat.bring_to_front(n);
         seat.held.pop_front();
-        let shared = &self.table.shared;
-        match shared.exchange(&mut seat.seat, n as usize, Some(v)) {
+        match self
+            .table
+            .shared
+            .exchange(&mut seat.seat, n as usize, Some(v))
+        {
             None => {}
             Some(_) => unreachable!(),
         }
-        shared.swap::<GoHome>(&mut seat.seat, n as usize + 1, 1);
+        self.release(&mut seat.seat, n);
     }
 
     /// Gives the values in order of place. It takes no memory.

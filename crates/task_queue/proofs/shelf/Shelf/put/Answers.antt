@@ -1,32 +1,26 @@
-use Rattle.task_queue.proofs.Imports.{Allows, IsKept, None, Returns, ap, arith, drop, map, none, once_below, refl, rest, step, subst, sym, times, without_each, ◌+◌, ◌∙◌}
+use Rattle.task_queue.proofs.Imports.{None, Some, ap, arith, drop, map, once_below, rest, sym, times, without_each, ◌∙◌, ◌∷◌}
 use Rattle.task_queue.proofs.Counts.{below_from_once, times-both_without}
-use Rattle.task_queue.proofs.ShelfRule.{return-allowed}
 use Rattle.task_queue.proofs.shelf.Shelf.put.Goals as goal
 
-pub swap-requires : goal.swap-requires
-swap-requires g c =
-    let z = c.args.self.now.sized in let b = c.bring_to_front.ensures in
-    let seat = c.args.seat.now in
-    let slots = c.args.self.now.table.shared.table_id.slots in
+pub release-requires-clause-place : goal.release-requires-clause-place
+release-requires-clause-place g c = let seat = c.args.seat.now in
     let s = ap (λ t. t.slots) c.requires.seat in
-    let less = below_from_once _ c.args.n seat.held.items seat.once c.requires.holds in
-    let view = c.bring_to_front.new.self.seat.me in (
-      c.exchange.ensures.0 ∙ b.seat ∙ c.requires.seat,
-      omega arith,
-      subst (λ m. Allows (IsKept g.V.Placed.fits) slots c.exchange.new.seat.id m (c.args.n + 1)
-          (λ _. 1)
-          (Returns (step slots (c.args.n + 1) 1 0 none) m)) (sym c.exchange.ensures.3)
-          (return-allowed slots c.exchange.new.seat.id c.args.n view.0 c.args.v (rest view.1)
-          (omega arith)
-          c.requires.fits),
-    )
+    let less = below_from_once _ c.args.n seat.held.items seat.once c.requires.holds in omega arith
+
+pub release-requires-clause-lies : goal.release-requires-clause-lies
+release-requires-clause-lies g c κs lives =
+    let swapped = ap (λ m. m.1) c.exchange.ensures.3 in record {
+      value = c.args.v;
+      fitting = c.requires.fits;
+      first = swapped ∙ ap (λ l. (c.args.n, Some c.args.v) ∷ rest l) (sym swapped);
+    }
 
 pub invariant_of-seat : goal.invariant_of-seat
 invariant_of-seat g c =
     let b = c.bring_to_front.new.self in let first = c.bring_to_front.ensures.first in
-    let did = c.swap.ensures.2 c.args.n refl in let swapped = c.exchange.ensures.3 in
+    let did = c.release.ensures.left in let swapped = c.exchange.ensures.3 in
     let left = c.pop_front.ensures.rest ∙ ap (drop 1) first.1 in
-    let id = c.swap.ensures.0 ∙ c.exchange.ensures.0 in record {
+    let id = c.release.ensures.same ∙ c.exchange.ensures.0 in record {
       slots = ap (λ m. m.1) did ∙ (ap (λ m. rest m.1) swapped
           ∙ (ap rest (b.slots ∙ ap (map (λ n. (n, None))) first.1)
           ∙ sym (ap (map (λ n. (n, None))) left)));
@@ -44,8 +38,8 @@ invariant_of-seat g c =
     }
 
 pub returns-clause-same : goal.returns-clause-same
-returns-clause-same g c = let did = c.swap.ensures.2 c.args.n refl in (
-  c.swap.ensures.0 ∙ c.exchange.ensures.0 ∙ c.bring_to_front.ensures.seat,
+returns-clause-same g c = let did = c.release.ensures.left in (
+  c.release.ensures.same ∙ c.exchange.ensures.0 ∙ c.bring_to_front.ensures.seat,
   ap (λ x. x.0.parts) did ∙ ap (λ x. x.0.parts) c.exchange.ensures.3
       ∙ ap (λ v. v.parts) c.bring_to_front.ensures.view,
 )

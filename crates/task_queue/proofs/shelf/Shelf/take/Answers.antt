@@ -1,12 +1,10 @@
-use Rattle.task_queue.proofs.Imports.{IfNone, IfSome, None, Some, ap, arith, map, once_below, refl, rest, subst, sym, times, ◌∙◌, ◌∷◌, ◌≡◌}
+use Rattle.task_queue.proofs.Imports.{IfSome, None, Some, ap, arith, map, once_below, rest, subst, sym, times, ◌∙◌, ◌∷◌}
 use Rattle.task_queue.proofs.Counts.{once-cons, length-once}
-use Rattle.task_queue.proofs.ShelfRule.{claim-allowed}
 use Rattle.task_queue.proofs.Seats.{slots-first, first-same}
-use Rattle.task_queue.proofs.shelf.Shelf.try_take.Goals as goal
+use Rattle.task_queue.proofs.shelf.Shelf.take.Goals as goal
 
-pub compare_exchange-requires : goal.compare_exchange-requires
-compare_exchange-requires g c = let z = c.args.self.now.sized in let i = c.requires.place in
-    (c.requires.seat, omega arith, claim-allowed _ _ _ _ c.requires.place c.args.seat.now.shared)
+pub claim-requires-clause-share : goal.claim-requires-clause-share
+claim-requires-clause-share g c κs lives = c.args.seat.now.shared
 
 pub push_front_reserved-requires : goal.push_front_reserved-requires
 push_front_reserved-requires g c =
@@ -18,17 +16,17 @@ push_front_reserved-requires g c =
 
 pub exchange-requires : goal.exchange-requires
 exchange-requires g c =
-    let took = c.compare_exchange.ensures.2.took c.if-compare_exchange-ne1.false c.args.n refl in (
-      c.compare_exchange.ensures.0 ∙ c.requires.seat,
+    let took = c.claim.ensures.taken in (
+      c.claim.ensures.same ∙ c.requires.seat,
       (Some took.value, slots-first _ _ _ _ took.seat),
     )
 
-pub invariant_of-seat-2 : goal.invariant_of-seat-2
-invariant_of-seat-2 g c =
+pub invariant_of-seat : goal.invariant_of-seat
+invariant_of-seat g c =
     let was = c.args.seat.now in let slots = was.seat.table_id.slots in
-    let took = c.compare_exchange.ensures.2.took c.if-compare_exchange-ne1.false c.args.n refl in
+    let took = c.claim.ensures.taken in
     let swapped = c.exchange.ensures.3 in let pushed = c.push_front_reserved.ensures.items in
-    let id = c.exchange.ensures.0 ∙ c.compare_exchange.ensures.0 in record {
+    let id = c.exchange.ensures.0 ∙ c.claim.ensures.same in record {
       slots = ap (λ m. m.1) swapped
           ∙ ap (λ l. (c.args.n, None) ∷ l) (ap (λ m. rest m.1) took.seat ∙ was.slots)
           ∙ sym (ap (map (λ n. (n, None))) pushed);
@@ -48,22 +46,12 @@ invariant_of-seat-2 g c =
 
 pub returns-clause-same : goal.returns-clause-same
 returns-clause-same g c =
-    let took = c.compare_exchange.ensures.2.took c.if-compare_exchange-ne1.false c.args.n refl in (
-      c.exchange.ensures.0 ∙ c.compare_exchange.ensures.0,
+    let took = c.claim.ensures.taken in (
+      c.exchange.ensures.0 ∙ c.claim.ensures.same,
       ap (λ x. x.0.parts) c.exchange.ensures.3 ∙ ap (λ x. x.0.parts) took.seat,
     )
 
-pub returns-clause-taken : goal.returns-clause-taken
-returns-clause-taken g c =
-    let took = c.compare_exchange.ensures.2.took c.if-compare_exchange-ne1.false c.args.n refl in
+pub returns-clause-fits : goal.returns-clause-fits
+returns-clause-fits g c = let took = c.claim.ensures.taken in
     let is = first-same _ _ _ _ _ _ c.exchange.ensures.2 (slots-first _ _ _ _ took.seat) in
-    let pushed = c.push_front_reserved.new.self.items ≡ c.args.n ∷ c.args.seat.now.held.items in
-    subst (λ r. IfSome r (λ v. g.V.Placed.fits v c.args.n × pushed)) (sym is)
-    (took.fitting, c.push_front_reserved.ensures.items)
-
-pub returns-clause-left : goal.returns-clause-left
-returns-clause-left g c =
-    let took = c.compare_exchange.ensures.2.took c.if-compare_exchange-ne1.false c.args.n refl in
-    let is = first-same _ _ _ _ _ _ c.exchange.ensures.2 (slots-first _ _ _ _ took.seat) in
-    subst (λ r. IfNone r (c.push_front_reserved.new.self.items ≡ c.args.seat.now.held.items))
-    (sym is) tt
+    subst (λ r. IfSome r (λ v. g.V.Placed.fits v c.args.n)) (sym is ∙ c.in-Some.is) took.fitting
