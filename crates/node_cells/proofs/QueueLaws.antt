@@ -1,6 +1,6 @@
 -- Charged nodes are put into the queue, or stay with the worker.
 use Rattle.node_cells.proofs.Imports.{BoxPicture, Identity, NodeCell, None, Option, [], ap, append-nil, cell_ports, subst, sym, ℕ, ◌++◌, ◌∙◌, ◌≡◌}
-use Rattle.node_cells.specs.Turns.{IsCarried, IsPrepared, Queues, Runs, Stays, TakesTurns, Turn, runs_more, runs_none, charged_by, charges_more, charges_none}
+use Rattle.node_cells.specs.Turns.{FollowsAnswer, IsCarried, IsPrepared, Queues, Runs, Stays, TakesTurns, Turn, runs_more, runs_none, charged_by, charges_more, charges_none}
 use Rattle.node_cells.specs.declared.stop_cause.StopCause.{StopCause}
 use Rattle.node_ports.specs.Peers.{CarriesNext}
 use Rattle.node_ports.specs.declared.actions.Carry.{Carry}
@@ -45,8 +45,9 @@ module _ {P : Type 0} {seen : P → BoxPicture} {t : Identity} {q : TaskQueue} w
       {between after : WorkerTasks} {s : Status} → Stays seen None mid prepared
       → IsPrepared seen t prepared s → Queues t q prepared carried between after
       → IsCarried seen t carried s → Stays seen o carried new
+      → FollowsAnswer s o (seen carried.processor) (seen new.processor)
       → Turn seen t q o mid new between after
-  turn-of stays prepares queues carries follows = record {
+  turn-of stays prepares queues carries leaves follows = record {
     status = _;
     prepared = _;
     carried = _;
@@ -54,6 +55,7 @@ module _ {P : Type 0} {seen : P → BoxPicture} {t : Identity} {q : TaskQueue} w
     prepares = prepares;
     queues = queues;
     carries = carries;
+    leaves = leaves;
     follows = follows;
   }
 

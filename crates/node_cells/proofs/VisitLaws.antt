@@ -1,11 +1,11 @@
 -- What a visit of a node does, and what it leaves of the node's cell.
-use Rattle.node_cells.proofs.Imports.{BoxPicture, Identity, IsSeatOf, NodeCell, None, Option, Some, inl, inr, subst, sym, ◌≡◌}
+use Rattle.node_cells.proofs.Imports.{BoxPicture, Identity, IsSeatOf, NodeCell, None, Option, Some, subst, sym, ◌≡◌}
 use Rattle.exec_laws.specs.declared.edges.DueCall.TheVariants as call
 use Rattle.exec_laws.specs.declared.edges.NodeStatus.{NodeStatus}
 use Rattle.exec_laws.specs.declared.edges.NodeStatus.TheVariants as node
 use Rattle.node_cells.proofs.QueueLaws.{turns-offer}
 use Rattle.node_cells.specs.Stored.{StoredAs}
-use Rattle.node_cells.specs.Visits.{LiesAs, Resumes, Visits, VisitsFrom}
+use Rattle.node_cells.specs.Visits.{LiesAs, Resumes, Visits, VisitsFrom, resumes_once, resumes_turns}
 use Rattle.node_cells.specs.declared.stop_cause.StopCause.{StopCause}
 use Rattle.task_queue.proofs.KeptNumbers.{offers-none}
 use Rattle.task_queue.specs.Tasks.{OffersNumbers}
@@ -35,7 +35,6 @@ module _ {P : Type 0} (seen : P → BoxPicture) (t : Identity) where
     visits-as s is h = subst (λ z. VisitsFrom seen t q o z old new before after) (sym is) h
 
     pub resumes-offer : Resumes seen t q o old new before after → OffersNumbers q before after
-    resumes-offer h = elim h.goes [
-      | inl r ↦ turns-offer r.turns
-      | inr e ↦ subst (OffersNumbers q before) (sym e.1) (offers-none q before)
-    ]
+    resumes-offer (resumes_turns called fetches runs) = turns-offer runs.turns
+    resumes-offer (resumes_once fetches same) =
+        subst (OffersNumbers q before) (sym same) (offers-none q before)

@@ -14,8 +14,9 @@ use Rattle.task_queue.specs.Tasks.{AreOffered}
 use Rattle.task_queue.specs.declared.queue.TaskQueue.{TaskQueue}
 use Rattle.task_queue.specs.declared.tasks.WorkerTasks.{WorkerTasks}
 use Rattle.exec_laws.specs.Names.{Acts, KeepsFault, StaysBox, state_after}
-use Rattle.node_cells.specs.Stops.{GrowthStays, StopHolds}
+use Rattle.node_cells.specs.Stops.{GrowthStays, KeepsFlaw, StopHolds}
 use Rattle.node_cells.specs.declared.stop_cause.StopCause.{StopCause}
+use Rattle.node_cells.specs.declared.stop_cause.StopCause.TheVariants as cause
 use Rattle.node_cells.specs.declared.node_run.RunEnd.{RunEnd}
 use Rattle.node_cells.specs.declared.node_run.RunEnd.TheVariants as run
 use Rattle.exec_laws.specs.declared.edges.DueCall.{DueCall}
@@ -27,6 +28,7 @@ use Rattle.proc_api.specs.declared.status.WorkFault.{WorkFault}
 use Rattle.proc_api.specs.declared.status.Wake.TheVariants as wake
 use Rattle.exec_laws.specs.declared.edges.NodeStatus.TheVariants as node
 use Rattle.proc_api.specs.declared.status.Status.{Status}
+use Rattle.proc_api.specs.declared.status.Status.TheVariants as status
 
 -- what an executor's moves see of a cell
 abbrev pub turn_picture : {P : Type 0} → (P → BoxPicture) → NodeCell P → CellPicture
@@ -159,12 +161,24 @@ abbrev pub AnswersWake : Result Wake WorkFault → BoxPicture → BoxPicture →
 AnswersWake (Ok a) p q = Wakes a p q
 AnswersWake (Err f) p q = KeepsFault f q
 
+-- The call that was due was made: the box has acted on its answer, or keeps what stopped the run.
+abbrev pub IsCalled : Option StopCause → BoxPicture → Type 0
+IsCalled None q = q.notes.acted ≡ true
+IsCalled (Some (cause.Fault f)) q = KeepsFault f q
+IsCalled (Some (cause.Flaw f)) q = (q.notes.acted ≡ true) × KeepsFlaw f q
+
+-- what comes after a step of work with a device: the box works where that was the last one
+abbrev pub WorksAfter : Result Wake WorkFault → Option StopCause → BoxPicture → BoxPicture → Type 0
+WorksAfter (Ok wake.Ready) o p q = StaysBox p q × IsCalled o q
+WorksAfter (Ok wake.Later) o p q = q ≡ p
+WorksAfter (Err f) o p q = q ≡ p
+
 -- a step of work with a device, and the work after the last one
-pub record Fetches (p q : BoxPicture) : Type 0 where
+pub record Fetches (o : Option StopCause) (p q : BoxPicture) : Type 0 where
   pub answer : Result Wake WorkFault
   pub woken : BoxPicture
   pub wakes : AnswersWake answer p woken
-  pub works : StaysBox woken q
+  pub works : WorksAfter answer o woken q
 
 -- after it the node is to work, or it goes home, held, until its device has more
 abbrev pub WakesTo : {P : Type 0} → (P → BoxPicture) → Identity → Wake → NodeCell P → Type 0
@@ -175,6 +189,15 @@ WakesTo seen t wake.Later c = AtHome seen t c × IsAtWork seen t call.Schedule c
 abbrev pub call_after : Wake → DueCall
 call_after wake.Ready = call.Work
 call_after wake.Later = call.Schedule
+
+-- what follows an answer: the call of the processor that it asks for, and no other
+abbrev pub FollowsAnswer : Status → Option StopCause → BoxPicture → BoxPicture → Type 0
+FollowsAnswer status.NeedData o p q = q ≡ p
+FollowsAnswer status.PortFull o p q = q ≡ p
+FollowsAnswer status.Ready o p q = IsCalled o q
+FollowsAnswer status.Async o p q = Fetches o p q
+FollowsAnswer status.ExpandPipeline o p q = IsCalled o q
+FollowsAnswer status.Finished o p q = q ≡ p
 
 -- a turn of a node on a worker: it was prepared, what it did was carried out, the nodes that were
 -- charged were queued, and what its answer asks for followed, which may have stopped the run
@@ -187,7 +210,8 @@ pub record Turn {P : Type 0} (seen : P → BoxPicture) (t : Identity) (q : TaskQ
   pub prepares : IsPrepared seen t prepared status
   pub queues : Queues t q prepared carried before after
   pub carries : IsCarried seen t carried status
-  pub follows : Stays seen o carried new
+  pub leaves : Stays seen o carried new
+  pub follows : FollowsAnswer status o (seen carried.processor) (seen new.processor)
 
 -- one turn after another, none of which stopped the run
 pub data Runs {P : Type 0} (seen : P → BoxPicture) (t : Identity) (q : TaskQueue)

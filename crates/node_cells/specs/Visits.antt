@@ -1,5 +1,5 @@
 -- A visit of a node: what it does by the state in which the node's cell lies, and how it leaves it.
-use Rattle.std.specs.Prelude.{None, Option, Some, ◌≡◌, ◌⊎◌}
+use Rattle.std.specs.Prelude.{None, Option, Some, ◌≡◌}
 use Rattle.exec_laws.specs.declared.edges.DueCall.TheVariants as call
 use Rattle.exec_laws.specs.declared.edges.NodeStatus.{NodeStatus}
 use Rattle.exec_laws.specs.declared.edges.NodeStatus.TheVariants as node
@@ -43,10 +43,12 @@ module _ {P : Type 0} (seen : P → BoxPicture) (t : Identity) (q : TaskQueue)
     pub runs : RunsDue begun new before after
 
   -- a step of work with its device was made, and then the node took turns, or that was all
-  pub record Resumes (old new : NodeCell P) (before after : WorkerTasks) : Type 0 where
-    pub called : NodeCell P
-    pub fetches : Fetches (seen old.processor) (seen called.processor)
-    pub goes : RunsDue called new before after ⊎ ((new ≡ called) × (after ≡ before))
+  pub data Resumes (old new : NodeCell P) (before after : WorkerTasks) : Type 0 where
+    resumes_turns : (called : NodeCell P)
+        → Fetches None (seen old.processor) (seen called.processor)
+        → RunsDue called new before after → Resumes old new before after
+    resumes_once : Fetches o (seen old.processor) (seen new.processor) → after ≡ before
+        → Resumes old new before after
 
   -- Only a node that never began, one at rest and one between two steps of work with its device
   -- are due a visit.

@@ -1,12 +1,12 @@
 //! The calls of a processor that touch no port.
-ghost use Rattle.std.specs.Prelude.{◌≡◌, false, None, OnOk, IfOk, IfErr};
+ghost use Rattle.std.specs.Prelude.{◌≡◌, false, true, None, OnOk, IfOk, IfErr};
 ghost use Rattle.exec_laws.specs.Names.{Acts, AsksToGrow, Grew, KeepsFault, StaysBox};
 ghost use Rattle.exec_table.specs.Seats.{identity_of};
 ghost use Rattle.exec_laws.specs.declared.edges.DueCall.TheVariants.{Expand, Schedule, Work};
 ghost use Rattle.proc_api.specs.Forms.{growth_form};
 ghost use Rattle.proc_api.specs.Names.{IsRunning, MaySchedule, MayWork};
 ghost use Rattle.node_cells.specs.Stops.{flaw_unreserved, stop_of};
-ghost use Rattle.node_cells.specs.Turns.{AnswersWake, IsAtWork, IsDue, IsStopped, Stays, Wakes, WakesTo, call_after};
+ghost use Rattle.node_cells.specs.Turns.{AnswersWake, IsAtWork, IsCalled, IsDue, IsStopped, Stays, Wakes, WakesTo, call_after};
 ghost use Rattle.node_cells.specs.declared.stop_cause.StopCause.TheVariants.{Fault};
 
 use crate::cell::NodeCell;
@@ -22,6 +22,7 @@ fn work_box<P: Processor>(processor: &mut P) -> Result<(), WorkFault>
     ensures stays { StaysBox (P.seen processor.old) (P.seen processor.new) }
     ensures growth { (P.seen processor.new).growth ≡ (P.seen processor.old).growth }
     ensures ok { OnOk result (Acts (P.seen processor.old) (P.seen processor.new)) }
+    ensures acted { OnOk result ((P.seen processor.new).notes.acted ≡ true) }
     ensures fault { IfErr result (λ f. KeepsFault f (P.seen processor.new)) }
 {
     processor.work()
@@ -44,6 +45,7 @@ fn expand_box<P: Processor>(processor: &mut P) -> Result<Growth, WorkFault>
     ensures stays { StaysBox (P.seen processor.old) (P.seen processor.new) }
     ensures ok { IfOk result
         (λ g. Grew (growth_form g) (P.seen processor.old) (P.seen processor.new)) }
+    ensures acted { IfOk result (λ g. (P.seen processor.new).notes.acted ≡ true) }
     ensures growth { IfErr result
         (λ f. (P.seen processor.new).growth ≡ (P.seen processor.old).growth) }
     ensures fault { IfErr result (λ f. KeepsFault f (P.seen processor.new)) }
@@ -53,19 +55,19 @@ fn expand_box<P: Processor>(processor: &mut P) -> Result<Growth, WorkFault>
 
 /// The processor works on what it has. Then it is to be prepared again. The table is what the
 /// clauses speak of.
-pub fn work<P: Processor>(_table: &ExecTable, cell: &mut NodeCell<P>) -> Result<(), WorkFault>
+pub fn work<P: Processor>(_table: &ExecTable, cell: &mut NodeCell<P>) -> Result<(), StopCause>
     requires { IsAtWork P.seen (identity_of _table.now) Work cell.old }
-    ensures stays { Stays P.seen None cell.old cell.new }
+    ensures called { IsCalled (stop_of result) (P.seen cell.new.processor) }
+    ensures stays { Stays P.seen (stop_of result) cell.old cell.new }
     ensures ok { OnOk result (IsDue P.seen (identity_of _table.now) cell.new) }
-    ensures fault { IfErr result
-        (λ f. IsStopped P.seen (identity_of _table.now) (Fault f) cell.new) }
+    ensures stop { IfErr result (λ s. IsStopped P.seen (identity_of _table.now) s cell.new) }
 {
     match work_box(&mut cell.processor) {
         Ok(()) => {
             cell.mark.state = NodeStatus::Due;
             Ok(())
         }
-        Err(fault) => Err(fault),
+        Err(fault) => Err(StopCause::Fault(fault)),
     }
 }
 
@@ -113,6 +115,7 @@ fn flaw_unreserved(growth: &Growth) -> Option<GrowthFlaw>
 /// names something stops the run of all. After another one the node is to be prepared again.
 pub fn expand<P: Processor>(_table: &ExecTable, cell: &mut NodeCell<P>) -> Result<(), StopCause>
     requires { IsAtWork P.seen (identity_of _table.now) Expand cell.old }
+    ensures called { IsCalled (stop_of result) (P.seen cell.new.processor) }
     ensures stays { Stays P.seen (stop_of result) cell.old cell.new }
     ensures ok { OnOk result (IsDue P.seen (identity_of _table.now) cell.new) }
     ensures stop { IfErr result (λ s. IsStopped P.seen (identity_of _table.now) s cell.new) }

@@ -1,11 +1,10 @@
 //! A worker runs a node: turn after turn, until its cell may go home.
-ghost use Rattle.std.specs.Prelude.{IfErr, IfOk, None};
+ghost use Rattle.std.specs.Prelude.{IfErr, IfOk};
 ghost use Rattle.exec_table.specs.Seats.{identity_of};
 ghost use Rattle.task_queue.specs.Queues.{IsPassOf};
 ghost use Rattle.node_cells.specs.Stops.{stop_of};
-ghost use Rattle.node_cells.specs.Turns.{Fetches, GoesOn, IsAtWork, IsCarried, IsDue, IsPrepared, IsStopped, KeepsProcessor, Queues, RunEndHolds, Stays, TakesTurns};
+ghost use Rattle.node_cells.specs.Turns.{Fetches, FollowsAnswer, GoesOn, IsAtWork, IsCarried, IsDue, IsPrepared, IsStopped, KeepsProcessor, Queues, RunEndHolds, Stays, TakesTurns};
 ghost use Rattle.node_cells.specs.Visits.{Resumes};
-ghost use Rattle.node_cells.specs.declared.stop_cause.StopCause.TheVariants.{Fault};
 ghost use Rattle.exec_laws.specs.declared.edges.DueCall.TheVariants.{Schedule};
 
 use crate::calls::{expand, schedule, work};
@@ -15,7 +14,7 @@ use crate::preparation::prepare;
 use crate::stop_cause::StopCause;
 use exec_table::ExecTable;
 use node_ports::Carry;
-use proc_api::{Processor, Status, Wake, WorkFault};
+use proc_api::{Processor, Status, Wake};
 use std::sync::Wait;
 use task_queue::{TaskQueue, WorkerTasks};
 
@@ -59,21 +58,21 @@ fn carry_all<P: Processor, R: Wait>(
 fn fetch<P: Processor>(
     table: &ExecTable,
     cell: &mut NodeCell<P>,
-) -> Result<Option<RunEnd>, WorkFault>
+) -> Result<Option<RunEnd>, StopCause>
     requires { IsAtWork P.seen (identity_of table.now) Schedule cell.old }
-    ensures stays { Stays P.seen None cell.old cell.new }
-    ensures fetches { Fetches (P.seen cell.old.processor) (P.seen cell.new.processor) }
+    ensures stays { Stays P.seen (stop_of result) cell.old cell.new }
+    ensures fetches { Fetches (stop_of result) (P.seen cell.old.processor)
+        (P.seen cell.new.processor) }
     ensures ok { IfOk result (λ end. GoesOn P.seen (identity_of table.now) end cell.new) }
-    ensures fault { IfErr result
-        (λ f. IsStopped P.seen (identity_of table.now) (Fault f) cell.new) }
+    ensures stop { IfErr result (λ s. IsStopped P.seen (identity_of table.now) s cell.new) }
 {
     match schedule(table, cell) {
         Ok(Wake::Later) => Ok(Some(RunEnd::Waits)),
         Ok(Wake::Ready) => match work(table, cell) {
             Ok(()) => Ok(None),
-            Err(fault) => Err(fault),
+            Err(stop) => Err(stop),
         },
-        Err(fault) => Err(fault),
+        Err(fault) => Err(StopCause::Fault(fault)),
     }
 }
 
@@ -86,6 +85,8 @@ fn follow<P: Processor>(
 ) -> Result<Option<RunEnd>, StopCause>
     requires { IsCarried P.seen (identity_of table.now) cell.old status }
     ensures stays { Stays P.seen (stop_of result) cell.old cell.new }
+    ensures follows { FollowsAnswer status (stop_of result) (P.seen cell.old.processor)
+        (P.seen cell.new.processor) }
     ensures ok { IfOk result (λ end. GoesOn P.seen (identity_of table.now) end cell.new) }
     ensures stop { IfErr result (λ s. IsStopped P.seen (identity_of table.now) s cell.new) }
 {
@@ -103,12 +104,9 @@ fn follow<P: Processor>(
         }
         Status::Ready => match work(table, cell) {
             Ok(()) => Ok(None),
-            Err(fault) => Err(StopCause::Fault(fault)),
+            Err(stop) => Err(stop),
         },
-        Status::Async => match fetch(table, cell) {
-            Ok(end) => Ok(end),
-            Err(fault) => Err(StopCause::Fault(fault)),
-        },
+        Status::Async => fetch(table, cell),
         Status::ExpandPipeline => match expand(table, cell) {
             Ok(()) => Ok(None),
             Err(stop) => Err(stop),
@@ -165,6 +163,6 @@ pub fn resume<P: Processor, R: Wait>(
     match fetch(table, cell) {
         Ok(None) => run_node(rt, table, queue, tasks, cell),
         Ok(Some(end)) => Ok(end),
-        Err(fault) => Err(StopCause::Fault(fault)),
+        Err(stop) => Err(stop),
     }
 }

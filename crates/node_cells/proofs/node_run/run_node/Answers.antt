@@ -14,7 +14,7 @@ loop-preserved g c = (
   search (rules, stay-both),
   runs_more c.loop.invariant.3 (turn-of c.prepare-status.ensures.stays
       c.prepare-status.ensures.prepared c.carry_all.ensures.queued c.carry_all.ensures.cell
-      (search rules)),
+      (search rules) (search rules)),
 )
 
 pub returns-in-Ok-Some-clause-turns : goal.returns-in-Ok-Some-clause-turns
@@ -23,7 +23,7 @@ returns-in-Ok-Some-clause-turns g c = record {
   tasks = _;
   earlier = c.loop.invariant.3;
   last = turn-of c.prepare-status.ensures.stays c.prepare-status.ensures.prepared
-      c.carry_all.ensures.queued c.carry_all.ensures.cell (search rules);
+      c.carry_all.ensures.queued c.carry_all.ensures.cell (search rules) (search rules);
 }
 
 pub returns-in-Err-clause-turns : goal.returns-in-Err-clause-turns
@@ -32,5 +32,5 @@ returns-in-Err-clause-turns g c = record {
   tasks = _;
   earlier = c.loop.invariant.3;
   last = turn-of c.prepare-status.ensures.stays c.prepare-status.ensures.prepared
-      c.carry_all.ensures.queued c.carry_all.ensures.cell (search rules);
+      c.carry_all.ensures.queued c.carry_all.ensures.cell (search rules) (search rules);
 }

@@ -1,4 +1,5 @@
-use Rattle.node_cells.proofs.Imports.{identity_of}
+use Rattle.node_cells.proofs.Imports.{identity_of, rules}
+use Rattle.exec_laws.specs.declared.edges.DueCall.TheVariants as call
 use Rattle.exec_laws.specs.declared.edges.NodeStatus.TheVariants as node
 use Rattle.node_cells.proofs.QueueLaws.{turns-offer}
 use Rattle.node_cells.proofs.VisitLaws.{resumes-offer, visits-as}
@@ -36,3 +37,9 @@ returns-in-AtWork-Schedule-clause-offers g c = resumes-offer _ _ _ _ _ _ _ _
 
 pub returns-in-Over-clause-offers : goal.returns-in-Over-clause-offers
 returns-in-Over-clause-offers g c = offers-none _ _
+
+pub returns-in-AtWork-Schedule-clause-visits : goal.returns-in-AtWork-Schedule-clause-visits
+returns-in-AtWork-Schedule-clause-visits g c = visits-as g.P.Processor.seen
+    (identity_of c.args.table.now) c.args.queue.now _ c.args.cell.now c.resume.new.cell
+    c.args.tasks.now c.resume.new.tasks (node.AtWork call.Schedule) (search rules)
+    c.resume.ensures.resumes
