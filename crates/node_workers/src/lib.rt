@@ -1,16 +1,17 @@
 //! The workers of a port-driven executor.
 //!
-//! The cells of all nodes lie on a shelf. A worker takes a number, takes that node's cell from the
-//! shelf, runs the node until its cell may go home, and puts it back. It takes the numbers that it
-//! kept first, then those in the queue, and before each it sees whether anything is pending and
-//! whether the run was stopped. After a fault, or a growth with a flaw, it notes the cause in the
-//! cell, which goes home held, and stops the run of all.
+//! The cells of all nodes lie on a shelf. A worker takes a number, claims that node's place on the
+//! shelf, runs the node until its cell may go home, and releases the place. The cell stays where it
+//! lies: to move it out and back would cost as much as a short visit. A worker takes the numbers
+//! that it kept first, then those in the queue, and before each it sees whether anything is pending
+//! and whether the run was stopped. After a fault, or a growth with a flaw, it notes the cause in
+//! the cell, which goes home held, and stops the run of all.
 //!
 //! No processor is prepared by two threads at once, or while it works: each call of a box is made
 //! through its `NodeCell`, and only in a turn, in which the seat of that cell says held (`IsDue`,
 //! `IsAtWork` of `node_cells`, which `prepare`, `work` and `schedule` require). A node number has
-//! one seat, one cell holds it, and the shelf hands that cell to one worker at a time
-//! (`Shelf::take` and `put`).
+//! one seat, one cell holds it, and the shelf lets one worker at a time have that cell
+//! (`Shelf::claim` and `release`).
 //!
 //! What is named of the boxes (`Naming`) is the same before and after: all that holds a cell is
 //! generic in the processor and in what is named.

@@ -92,6 +92,7 @@ fn next_worker<P: Processor, J: Naming>(
         seat: shared.table.worker(root),
         tasks: WorkerTasks::new(shared.queue.pass(&mut from.tasks.pass)),
         shelf: shared.shelf.seat_with_room(&mut from.shelf, held),
+        looks: 0,
     }
 }
 
@@ -144,6 +145,7 @@ fn part_workers<P: Processor, J: Naming>(
             seat,
             tasks: _,
             shelf,
+            looks: _,
         } = worker;
         seats.push_reserved(seat);
         shelf_seats.push_reserved(shelf);
@@ -255,6 +257,7 @@ fn run_named<P: Processor, J: Naming, R: Threads + Wait + Sync>(
                 seat: shared.table.worker(&mut root),
                 tasks,
                 shelf: shelf_seat,
+                looks: 0,
             };
             let workers = make_workers(&shared, &mut root, first, held, workers);
             let rooms = EndRooms {

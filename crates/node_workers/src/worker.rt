@@ -1,21 +1,31 @@
 //! A worker, from its first number to its end, and all workers beside each other.
 ghost use Rattle.std.specs.Prelude.{◌≡◌, ◌<◌, ◌≤◌, All};
+ghost use Rattle.atomic_table.specs.Table.{rest};
+ghost use Rattle.exec_table.specs.Seats.{IsWorkerOf, identity_of};
 ghost use Rattle.node_workers.specs.Workers.{IsShared, IsWorkerAt, IsWorkerOver, parts_of};
 ghost use Rattle.task_queue.specs.Numbers.{total_over};
-ghost use Rattle.task_queue.specs.Shelves.{parts, places};
+ghost use Rattle.task_queue.specs.Queues.{IsPassOf};
+ghost use Rattle.task_queue.specs.Shelves.{IsIdleSeatOf, parts, places};
+ghost use Rattle.task_queue.specs.Steps.{LiesFirst};
 ghost use Rattle.task_queue.specs.Tasks.{OffersNumbers};
 
 use crate::named_cell::{NamedCell, Naming};
 use crate::visit::visit_cell;
+use atomic_table::Seat;
 use crossbeam_utils::Backoff;
 use exec_table::{ExecTable, Seen, WorkerSeat};
 use proc_api::Processor;
 use std::sync::Wait;
 use std::thread::{Threads, for_each_mut};
-use task_queue::{Shelf, ShelfSeat, TaskQueue, WorkerTasks};
+use task_queue::{Bell, Holding, Placed, Shelf, ShelfSeat, TaskQueue, WorkerTasks};
 
 /// The most workers that a run has.
 const MOST_WORKERS: usize = 16;
+
+/// How many visits in a row a worker makes to nodes that go on with their devices between two naps.
+/// A file of 64 MB is read in so many blocks, and a reader that has nothing is looked at as often
+/// in a millisecond or less. A million looks, after which it is given up, take about a second.
+const LOOKS_BETWEEN_NAPS: u32 = 1024;
 
 /// What all workers share: the table, the numbers of nodes that are due, and the cells.
 #[derive(Drop)]
@@ -31,10 +41,79 @@ pub struct Worker<P: Processor, J: Naming> {
     pub seat: WorkerSeat,
     pub tasks: WorkerTasks,
     pub shelf: ShelfSeat<NamedCell<P, J>>,
+    /// At how many nodes in a row it found a device that has nothing yet, since its last nap.
+    pub looks: u32,
+}
+
+/// Counts a look at a device that has nothing yet, and naps after so many in a row.
+fn nap_between_looks<R: Wait>(rt: &R, bell: &Bell, looks: &mut u32) {
+    if *looks < LOOKS_BETWEEN_NAPS {
+        *looks += 1;
+    } else {
+        *looks = 0;
+        bell.nap(rt);
+    }
+}
+
+/// Visits the node whose cell lies at the place that was claimed last. Says whether it is to be
+/// queued again.
+fn visit_slot<P: Processor, J: Naming, R: Wait>(
+    rt: &R,
+    shared: &Shared<P, J>,
+    seat: &mut WorkerSeat,
+    tasks: &mut WorkerTasks,
+    place: &mut Seat<Option<NamedCell<P, J>>, Holding>,
+    n: u32,
+) -> bool
+    requires shared { IsShared J.identity shared.now }
+    requires seat { IsWorkerOf (identity_of shared.now.table) seat.old }
+    requires pass { IsPassOf shared.now.queue tasks.old.pass }
+    requires place { place.old.table_id ≡ shared.now.shelf.table.shared.table_id }
+    requires lies { LiesFirst ⟦<NamedCell<P, J> as Placed>⟧.fits n place.old.me }
+    ensures seat { IsWorkerOf (identity_of shared.now.table) seat.new }
+    ensures pass { IsPassOf shared.now.queue tasks.new.pass }
+    ensures offers { OffersNumbers shared.now.queue tasks.old tasks.new }
+    ensures place { place.new.table_id ≡ place.old.table_id }
+    ensures lies { LiesFirst ⟦<NamedCell<P, J> as Placed>⟧.fits n place.new.me }
+    ensures view { place.new.me.0 ≡ place.old.me.0 }
+    ensures others { rest place.new.me.1 ≡ rest place.old.me.1 }
+{
+    let slot = place.slot_mut(&shared.shelf.table.shared, n as usize);
+    match slot {
+        Some(named) => visit_cell(rt, &shared.table, &shared.queue, seat, tasks, named),
+        None => unreachable!(),
+    }
+}
+
+/// Visits the node with this number. Its cell stays where it lies on the shelf.
+fn visit_in_place<P: Processor, J: Naming, R: Wait>(
+    rt: &R,
+    shared: &Shared<P, J>,
+    seat: &mut WorkerSeat,
+    tasks: &mut WorkerTasks,
+    shelf: &mut ShelfSeat<NamedCell<P, J>>,
+    n: u32,
+) -> bool
+    requires shared { IsShared J.identity shared.now }
+    requires seat { IsWorkerOf (identity_of shared.now.table) seat.old }
+    requires pass { IsPassOf shared.now.queue tasks.old.pass }
+    requires shelf { IsIdleSeatOf shared.now.shelf shelf.old }
+    requires place { n < places shared.now.shelf }
+    ensures seat { IsWorkerOf (identity_of shared.now.table) seat.new }
+    ensures pass { IsPassOf shared.now.queue tasks.new.pass }
+    ensures offers { OffersNumbers shared.now.queue tasks.old tasks.new }
+    ensures shelf { IsIdleSeatOf shared.now.shelf shelf.new }
+    ensures parts { parts shelf.new ≡ parts shelf.old }
+{
+    shared.shelf.claim(rt, &mut shelf.seat, n);
+    let waits = visit_slot(rt, shared, seat, tasks, &mut shelf.seat, n);
+    shared.shelf.release(&mut shelf.seat, n);
+    waits
 }
 
 /// Visits the node with this number, and queues it again behind the others where its device has
-/// nothing yet.
+/// nothing yet. A worker that finds nothing but such nodes naps now and then, and has the node
+/// meanwhile, so that no other looks at its device.
 fn visit<P: Processor, J: Naming, R: Wait>(
     rt: &R,
     shared: &Shared<P, J>,
@@ -48,18 +127,19 @@ fn visit<P: Processor, J: Naming, R: Wait>(
     ensures parts { parts worker.new.shelf ≡ parts worker.old.shelf }
     ensures offers { OffersNumbers shared.now.queue worker.old.tasks worker.new.tasks }
 {
-    let mut named = shared.shelf.take(rt, &mut worker.shelf, n);
-    let waits = visit_cell(
+    let waits = visit_in_place(
         rt,
-        &shared.table,
-        &shared.queue,
+        shared,
         &mut worker.seat,
         &mut worker.tasks,
-        &mut named,
+        &mut worker.shelf,
+        n,
     );
-    shared.shelf.put(&mut worker.shelf, n, named);
     if waits {
+        nap_between_looks(rt, &shared.queue.bell, &mut worker.looks);
         worker.tasks.offer_again(rt, &shared.queue, n);
+    } else {
+        worker.looks = 0;
     }
 }
 
