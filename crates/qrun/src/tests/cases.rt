@@ -55,6 +55,24 @@ pub(super) fn check_cases<R: AllocGlobal + Threads + Wait + Sync>(
     Ok(())
 }
 
+/// By each number of lanes, where all rows lie in one chunk, each case's run gave its lines in
+/// order, and where each row is a chunk of its own in any order.
+pub(super) fn check_lines<R: AllocGlobal + Threads + Wait + Sync>(
+    rt: &R,
+    abort: &impl Abort,
+    cases: &[&str],
+) -> Result<(), Fail> {
+    check_cases(rt, abort, cases, &SIZES[3..])?;
+    for case in cases.iter() {
+        let (tables, more) = halves(case, '~');
+        let (query, more) = halves(more, '~');
+        let (parts, told) = halves(more, '~');
+        let case = format!(in rt.alloc(); "{tables}~{query}~{parts}~*{told}")?;
+        check_cases(rt, abort, &[case.as_str()], &SIZES[..3])?;
+    }
+    Ok(())
+}
+
 /// The case's runs gave what it tells.
 pub(super) fn check_case<R: AllocGlobal + Threads + Wait + Sync>(
     rt: &R,

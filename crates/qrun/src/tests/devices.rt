@@ -106,7 +106,7 @@ fn a_missing_kind_is_told(rt: HostRuntime) -> Result<(), Fail> {
         "t=p0.csv:a Int64|--threads|4~SELECT count() FROM t~7\n~\
          !limit: boxes of kind MergeAggregate needed 1, rack has 0~seeeeerppppc",
     ];
-    check_cases(&rt, &rt, &CASES, &[""])
+    check_cases(&rt, &rt, &CASES, &["|--chunk|1", "|--chunk|8192"])
 }
 
 /// The boxes that weren't taken lie in front, and then the taken ones in the order of the plan. The
@@ -283,7 +283,9 @@ fn sinks_take_little(rt: HostRuntime) -> Result<(), Fail> {
             out: (1, *room),
             ..AMPLE
         };
-        check_case(&rt, &rt, case, "", setting)?;
+        for size in SIZES[3..].iter() {
+            check_case(&rt, &rt, case, size, setting)?;
+        }
     }
     Ok(())
 }

@@ -80,7 +80,7 @@ fn a_table_has_at_most_32_paths(rt: HostRuntime) -> Result<(), Fail> {
          !refused: UnknownColumn b~",
         "t=p0.csv^32*+p0.csv^:a Int64;u=p0.csv:c Int64~SELECT c FROM u~1\n~1\n",
     ];
-    check_cases(&rt, &rt, &CASES, &[""])
+    check_cases(&rt, &rt, &CASES, &SIZES)
 }
 
 /// Words that are a command: the words, the one part, and what is written or told.

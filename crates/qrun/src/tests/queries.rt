@@ -1,14 +1,7 @@
 // Queries: what is written, and what is told of those that are refused.
-use super::cases::check_cases;
+use super::cases::{SIZES, check_cases, check_lines};
 use super::{AMPLE, bars, one_file, run_setting};
 use std::test::Fail;
-
-// One thread and several. One chunk has all rows, so that they come in their order.
-static LANES: [&str; 3] = [
-    "|--threads|1|--chunk|8192",
-    "|--threads|4|--chunk|8192",
-    "|--threads|16|--chunk|8192",
-];
 
 /// Valid files: the columns, the query, the file, and what is written.
 #[test]
@@ -30,7 +23,7 @@ fn answers_are_written(rt: HostRuntime) -> Result<(), Fail> {
         "a String,b String~SELECT a, b FROM t~,\n\"\",\n~\"\",\"\"\n\"\",\"\"\n",
         "a String~SELECT a FROM t~ x \n~\" x \"\n",
     ];
-    check_cases(&rt, &rt, &CASES, &LANES)
+    check_lines(&rt, &rt, &CASES)
 }
 
 /// Bytes that are no text of Unicode.
@@ -67,7 +60,7 @@ fn other_ends_tell_their_line(rt: HostRuntime) -> Result<(), Fail> {
         "a Int64,a Int64~SELECT a FROM t~1\n~!usage",
         "~SELECT a FROM t~1\n~!usage",
     ];
-    check_cases(&rt, &rt, &CASES, &LANES)
+    check_lines(&rt, &rt, &CASES)
 }
 
 /// Items with arithmetic: the columns, the query, the file, and what is written.
@@ -84,7 +77,7 @@ fn items_are_evaluated(rt: HostRuntime) -> Result<(), Fail> {
         "a Int64~SELECT a * -1, 2 - a FROM t~5\n~-5,-3\n",
         "u UInt64~SELECT u + -0 FROM t~5\n~5\n",
     ];
-    check_cases(&rt, &rt, &CASES, &LANES)
+    check_lines(&rt, &rt, &CASES)
 }
 
 /// Conditions on numbers: the columns, the query, the file, and what is written.
@@ -103,7 +96,7 @@ fn conditions_choose_rows(rt: HostRuntime) -> Result<(), Fail> {
         "a Int64~SELECT a FROM t WHERE 1 <> 1~1\n2\n~",
         "a Int64~SELECT a FROM t WHERE 2 <= a~1\n2\n~2\n",
     ];
-    check_cases(&rt, &rt, &CASES, &LANES)
+    check_lines(&rt, &rt, &CASES)
 }
 
 /// Conditions on texts, names, and the ways that a query may be written.
@@ -124,7 +117,7 @@ fn texts_and_names_are_read(rt: HostRuntime) -> Result<(), Fail> {
         "a Int64~\tSELECT\r\na ,(a+1)FROM t~1\n~1,2\n",
         "count Int64~SELECT count FROM t~1\n~1\n",
     ];
-    check_cases(&rt, &rt, &CASES, &LANES)
+    check_lines(&rt, &rt, &CASES)
 }
 
 /// Refused texts and queries.
@@ -161,7 +154,7 @@ fn refusals_are_told(rt: HostRuntime) -> Result<(), Fail> {
         "a Int64,b String~SELECT a + 1 FROM t ORDER BY a~1,x\n~!refused: BadOrderKey a",
         "a Int64,b String~SELECT a, b AS a FROM t ORDER BY b, a~1,x\n~!refused: BadOrderKey b",
     ];
-    check_cases(&rt, &rt, &CASES, &[""])
+    check_cases(&rt, &rt, &CASES, &SIZES)
 }
 
 /// Queries at a limit and one beyond it.
@@ -179,5 +172,5 @@ fn queries_keep_the_limits(rt: HostRuntime) -> Result<(), Fail> {
         // parentheses as deep as the limit allows
         "a Int64,b String~SELECT a FROM t WHERE ^1000*(^a = 1^1000*)^~1,x\n2,y\n~1\n",
     ];
-    check_cases(&rt, &rt, &CASES, &[""])
+    check_cases(&rt, &rt, &CASES, &SIZES)
 }
