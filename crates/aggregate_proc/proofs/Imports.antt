@@ -2,6 +2,7 @@
 pub use Rattle.chunk_data.proofs.Laws.{AreLong-made, rows_of-made}
 pub use Rattle.key_codes.proofs.KeyLaws.{codes-keys, places-keys}
 pub use Rattle.proc_api.proofs.Orders.{every-append}
+pub use Rattle.proc_api.specs.Names.{Reading}
 pub use Rattle.proc_api.specs.SpecContracts.{NotesEnd as EndIsNoted}
 pub use Rattle.std.proofs.Common.{Bool, IfOk, IsPermutation, List, None, SFits, Some, [], ap, append_assoc, ap₂, arith, cond, drop, drop-drop, false, filter, fold, get_or, inl, inr, length, map, max, min, not, of_z, pos, refl, rules, set, subst, suc, sym, take, to_z, true, w64, zero, ℕ, ℤ, ◌%◌, ◌++◌, ◌+ℤ◌, ◌+◌, ◌-◌, ◌<◌, ◌^◌, ◌||◌, ◌∙◌, ◌∷◌, ◌≡◌, ◌≢◌, ◌≤◌, ◌⊎◌}
 pub use Rattle.std.proofs.lemmas.Grind.{common_steps}
@@ -22,7 +23,7 @@ pub use Rattle.key_codes.specs.Keys.{AreKeyValues, HasKey as HasKeyAt, IsSeenFor
 pub use Rattle.proc_api.specs.Grouped.{argument_types, calls_from, default_states, merged_states, spec_group_types}
 pub use Rattle.proc_shell.proofs.Imports.{ArePortsOf, HasNotedEnd, IsAtMost, IsPulled, Lists, MakesTypes, OwnState, Picture, Spec, cases_eq, cases_lt, chunk_rows, eqb-true, in_count, input_at, is_in_finished, most_rows, no-rows, no_lists, out_count}
 pub use Rattle.proc_shell.proofs.Through.{all-more, makes-nothing, rows-here}
-pub use Rattle.proc_shell.specs.Kernels.{AreInputsOver, Begins, IsReadOut, Makes, Means, OfferComes, Offers, Reading, Reads, Takes, unread, with_chunk}
+pub use Rattle.proc_shell.specs.Kernels.{AreInputsOver, Begins, Makes, Means, OfferComes, Offers, Reads, Takes, unread, with_chunk}
 pub use Rattle.query_model.proofs.Aggregates.{combined-merge, greater-comm}
 pub use Rattle.query_model.proofs.Distinct.{IsSame}
 pub use Rattle.query_model.proofs.Imports.{Call, ColumnType, Combine, FitsTypes, IsPermutation-append_left, IsPermutation-refl, IsPermutation-trans, Row, Table, Text, UInt, Value, added, both_ways, call_of, combine_of, counted, counts_added, distinct_rows, exact_sum, flat_map-append, greatest, grouped_by, groups_or_default, is_uint, least, length-FitsTypes, length_permutation, list_any-append, merge_of, merged_groups, rows_with, same_row, state_calls, value_at, value_cmp, values_at}

@@ -1,6 +1,6 @@
 -- A partial aggregate and a merge inside the shell.
 use Rattle.std.proofs.Common.{◌≡◌, ℕ, Bool, true, false, List, Some, refl}
-use Rattle.aggregate_proc.specs.Prelude.{GroupSpec, IsShelled, IsWorkOf, Table, kind_of, pushes-in-order, shelled-of, shelled-plain, work_of}
+use Rattle.aggregate_proc.specs.Prelude.{GroupSpec, IsShelled, IsWorkOf, Table, kind_of, shelled-of, shelled-still, work_of}
 use Rattle.query_model.specs.declared.processor_spec.Spec.TheVariants as spec
 use Rattle.aggregate_proc.specs.GroupKinds.{GroupingView, aggregate_kind, aggregate_spec, state_in}
 use Rattle.aggregate_proc.specs.declared.phase.Phase.{Phase}
@@ -8,11 +8,10 @@ use Rattle.aggregate_proc.specs.declared.phase.Phase.TheVariants as phase
 
 pub grouping_shelled : (merges : Bool) (g : GroupSpec) → IsShelled (aggregate_spec merges g)
 grouping_shelled false g =
-    shelled-of (spec.PartialAggregate g) 1 refl refl (record { ports = λ growth m n h. h })
+    shelled-of (spec.PartialAggregate g) 1 refl (record { ports = λ growth m n h. h })
 grouping_shelled true g =
-    shelled-plain (spec.MergeAggregate g) refl (λ growth kept m n had h position. position)
-    (λ ins enough growth m n h. h)
-    (pushes-in-order (spec.MergeAggregate g) refl (λ growth m n h. h))
+    shelled-still (spec.MergeAggregate g) refl
+    (record { position = λ kept m n h. h; one = λ growth m n h. h })
 
 pub grouping_kind : (merges : Bool) (g : GroupSpec) → kind_of (aggregate_spec merges g)
     ≡ aggregate_kind merges

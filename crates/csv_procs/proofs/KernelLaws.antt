@@ -43,19 +43,22 @@ pub source-begins : (lists : Bool) (s : Spec) (part : PartSpec) → kind_of s �
 source-begins false s part k (inl e) = record {
   spec = sym e;
   nothing = λ files. rw e
-      (record { before = λ e. (refl, refl, refl); fetched = λ e. absurd (cc) });
+      (record {
+        before = λ e. record { no_rows = refl; nothing_unmade = refl; nothing_bad = refl };
+        fetched = λ e. absurd (cc);
+      });
   unended = λ i n. n;
 }
 source-begins true s list k (inr e) = record {
   spec = sym e;
-  nothing = λ files. rw e (
-    record {
+  nothing = λ files. rw e (record {
+    knows = record {
       before = λ e. record { no_paths = refl; no_bad_line = refl; ungrown = refl };
       read = λ e. absurd (cc);
       grown = tt;
-    },
-    ((begins-resized spec.Resize refl).nothing None).1,
-  );
+    };
+    resized = ((begins-resized spec.Resize refl).nothing None).1;
+  });
   unended = λ i n. n;
 }
 source-begins false s part k (inr e) = absurd (let x = sym k ∙ ap kind_of e in cc)
@@ -87,7 +90,8 @@ over-made types n (fields ∷ more) e = absurd (cc)
 module _ (part : PartSpec) (r : RowsLeft) where
   rows-reads : (b : Bool) → at_end r.rest ≡ b
       → Reads (sourcing false part (Rows r)) (cond b offer.Wants offer.Record)
-  rows-reads true e = (refl, (over-made part.types (r.count + 1) r.rest e).1)
+  rows-reads true e =
+      record { fetched = refl; valid = (over-made part.types (r.count + 1) r.rest e).1 }
   rows-reads false e = elim (left-ready part.types (r.count + 1) r.rest e) [
     | inl row ↦ inl row
     | inr bad ↦ inr (inl (refl, bad))
@@ -122,7 +126,8 @@ module _ (part : PartSpec) (r : RowsLeft) where
       let m = length-append c.rows (good_rows part.types r'.rest) in
       record {
         means = λ y worked outs h. record {
-          before = λ e. absurd (let b = h.before e in let l = ap length (sym x.good ∙ b.1) in
+          before = λ e. absurd (let b = h.before e in
+              let l = ap length (sym x.good ∙ b.nothing_unmade) in
               omega (arith, l, m, some));
           fetched = λ e.
               let a = h.fetched e in
@@ -159,7 +164,8 @@ module _ (list : PartSpec) (l : ListedPaths) where
     ungrown = ap (λ b. cond b (Some (list_growth list l.paths)) None) x.1;
     names_path = x.2;
   }
-  list-reads offer.Wants x = (refl, x.0.valid, grown-all l.grown list l.paths x.1)
+  list-reads offer.Wants x =
+      record { fetched = refl; valid = x.0.valid; inputs = grown-all l.grown list l.paths x.1 }
   list-reads o x = absurd x
 
   list-comes : (v : Picture) (o : Offer) → IsNextOfList l o
@@ -184,12 +190,12 @@ module _ (list : PartSpec) (l : ListedPaths) where
       → Takes (spec.List list) (sourcing true list (Paths l)).own i t
       (sourcing true list (Paths l')).own o
   takes-list l' i t o lt fit g wanted = record {
-    means = λ x fits worked outs h. (
-      h.0,
-      subst (AreResized (with_chunk i t worked) outs) g.rows
+    means = λ x fits worked outs h. record {
+      knows = h.knows;
+      resized = subst (AreResized (with_chunk i t worked) outs) g.rows
           (resized-takes worked outs i t lt (subst (AreResized worked outs)
-          (nil_from_length (left_rows l) (eqb-true (length (left_rows l)) 0 wanted)) h.1)),
-    );
+          (nil_from_length (left_rows l) (eqb-true (length (left_rows l)) 0 wanted)) h.resized));
+    };
     types = λ ins pulled. of-types list.types o (g.types list.types fit).0;
     sizes = g.within;
     ends = λ i n. n;
@@ -201,7 +207,8 @@ module _ (list : PartSpec) (l : ListedPaths) where
       → Makes (spec.List list) (sourcing true list (Paths l)).own
       (sourcing true list (Paths l')).own o
   makes-left l' o fit g = record {
-    means = λ x worked outs h. (h.0, subst (AreResized worked outs) g.rows h.1);
+    means = λ x worked outs h.
+        record { knows = h.knows; resized = subst (AreResized worked outs) g.rows h.resized };
     types = λ ins. of-types list.types o (g.types list.types fit).0;
     sizes = g.within;
     progress = g.some;

@@ -1,5 +1,6 @@
 -- The clauses of a source's calls.
-use Rattle.csv_procs.proofs.Imports.{ArePartBytes, AreResized, Bool, BoxPicture, Err, Expands, Fails, FaultComes, FaultHolds, FaultInCall, FaultIsDue, Faults, Fetching, FileState, Growth, Held, IfErr, IfOk, IfSome, IsFile, IsLongFile, IsLongTold, IsRead, IsWholeFile, IsWorkOf, KeepsList, KeepsPart, KeepsRows, KeepsSame, Kind, KnowsList, List, ListedPaths, Lists, MatchesReader, None, Notes, NotesEnd, OfPart, Ok, Option, OwnState, PartMatchesReader, PartSpec, Paths, Position, Prepared, ReaderState, ReaderView, Result, RowCount, Rows, Schedules, Shut, Some, Status, StaysAt, StepComes, StepsTo, ToldFiles, Wake, WakeComes, WorkFault, ap, arith, bad_line_in, bad_place, bad_place_in, chunk_rows, cond, csv_kind, csv_spec, false, file_of, files_of, good_rows, grown-keeps, growth_form, had-same, held_made, held_unworked, inl, inr, is_fetched, is_grown, kept_input, kept_inputs, kept_output, kept_outputs, length, list_growth, list_uses, lists_in, loaded_seen, option_map, paths_of, refl, rows_if_some, shell_state, source_of, source_unmade, source_uses, sourcing, spec_growth, stage_in, subst, sym, told_as_pairs, true, with_answer, ℕ, ◌++◌, ◌+◌, ◌<◌, ◌∙◌, ◌≡◌}
+use Rattle.csv_procs.proofs.Imports.{ArePartBytes, AreResized, Bool, BoxPicture, Err, Expands, Fails, FaultComes, FaultHolds, FaultInCall, FaultIsDue, Faults, Fetching, FileState, Growth, Held, IfErr, IfOk, IfSome, IsFile, IsLongFile, IsLongTold, IsRead, IsWholeFile, IsWorkOf, KeepsRows, KeepsSame, Kind, KnowsList, List, ListedPaths, Lists, MatchesReader, None, Notes, NotesEnd, OfPart, Ok, Option, OwnState, PartMatchesReader, PartSpec, Paths, Position, Prepared, ReaderState, ReaderView, Result, RowCount, Rows, Schedules, Shut, Some, Status, StaysAt, StepComes, StepsTo, ToldFiles, Wake, WakeComes, WorkFault, ap, arith, bad_line_in, bad_place, bad_place_in, chunk_rows, cond, csv_kind, csv_spec, false, file_of, files_of, good_rows, grown-keeps, growth_form, had-same, held_made, held_unworked, inl, inr, is_fetched, is_grown, kept_input, kept_inputs, kept_output, kept_outputs, length, list_growth, list_uses, lists_in, loaded_seen, option_map, paths_of, refl, rows_if_some, shell_state, source_of, source_unmade, source_uses, sourcing, spec_growth, stage_in, subst, sym, told_as_pairs, true, with_answer, ℕ, ◌++◌, ◌+◌, ◌<◌, ◌∙◌, ◌≡◌, HasMade, IsReadOut, KeepsMade, own_of, reading_of}
+use Rattle.query_model.specs.declared.processor_spec.Spec.TheVariants as spec
 use Rattle.proc_api.specs.declared.status.Wake.TheVariants as wake
 use Rattle.proc_api.specs.declared.status.WorkFault.TheVariants as fault
 
@@ -81,40 +82,53 @@ module _ (d e : ReaderState) (count : RowCount) (lists : Bool) (part' : PartSpec
   abbrev Q : Bool → FileState → Result Wake WorkFault → BoxPicture
   Q b s r = source told e.faults e.pendings count b part' s h (with_answer r noted)
 
-  -- no row is made before the file is fetched whole
-  unread : (s : FileState) (held : List ℕ) (a : Wake) → is_fetched s ≡ false
-      → (outs : Lists) → KeepsPart part' (P false s) outs
-      → KeepsPart part' (Q false (Fetching held) (Ok a)) outs
+  -- a file that isn't fetched whole isn't read out
+  never-read : {X : Type 0} (b : Bool) (s : FileState) → is_fetched s ≡ false
+      → IsReadOut (csv_spec b part') (file_of (P b s)) → X
+  never-read false s none r = false-true (sym none ∙ r.fetched)
+  never-read true s none r = false-true (sym none ∙ r.fetched)
+
+  -- A step of a file that isn't fetched whole: no output was finished, so that what was made is all
+  -- that is kept.
+  step-made : (b : Bool) (s s' : FileState) (a : Wake) → is_fetched s ≡ false → (ins outs : Lists)
+      → (t : KeepsMade (csv_spec b part') (P b s) ins outs)
+      → HasMade (reading_of (Q b s' (Ok a))) (csv_spec b part') (own_of (Q b s' (Ok a)).work)
+      t.worked outs (chunk_rows (held_made h))
+      → KeepsMade (csv_spec b part') (Q b s' (Ok a)) ins outs
   unfolding kept_output
-  unread s held a none outs t = record {
-    before = λ e. record {
-      nothing_out = (t.before none).nothing_out;
-      nothing_waits = (t.before none).nothing_waits;
-      nothing_unmade = refl;
-      nothing_bad = refl;
-    };
-    fetched = λ e. absurd (cc);
-    finished = λ fin. false-true (sym none ∙ (t.finished fin).fetched);
+  step-made b s s' a none ins outs t rows = record {
+    worked = t.worked;
+    ins_are = t.ins_are;
+    rows = rows;
+    over = λ o fin. never-read b s none (t.read o fin);
+    read = λ o fin. never-read b s none (t.read o fin);
   }
+
+  -- no row is made before the file is fetched whole
+  still-unread : (s : FileState) (held : List ℕ) (a : Wake) → is_fetched s ≡ false
+      → (ins outs : Lists) → KeepsMade (spec.Csv part') (P false s) ins outs
+      → KeepsMade (spec.Csv part') (Q false (Fetching held) (Ok a)) ins outs
+  still-unread s held a none ins outs t =
+      step-made false s (Fetching held) a none ins outs t (record {
+        before = λ e. record {
+          no_rows = (t.rows.before none).no_rows;
+          nothing_unmade = refl;
+          nothing_bad = refl;
+        };
+        fetched = λ e. absurd (cc);
+      })
 
   -- a list that isn't fetched whole has passed on nothing, and what it knows then is of the file
   list-step : (s s' : FileState) (a : Wake) → is_fetched s ≡ false
       → source_unmade part'.types s ≡ source_unmade part'.types s'
       → KnowsList part' (option_map files_of told) (file_of (Q true s' (Ok a)))
-      → (ins outs : Lists) → KeepsList part' (P true s) ins outs
-      → KeepsList part' (Q true s' (Ok a)) ins outs
-  unfolding kept_output kept_inputs
-  list-step s s' a none same knows ins outs t = record {
+      → (ins outs : Lists) → KeepsMade (spec.List part') (P true s) ins outs
+      → KeepsMade (spec.List part') (Q true s' (Ok a)) ins outs
+  list-step s s' a none same knows ins outs t = step-made true s s' a none ins outs t (record {
     knows = knows;
-    made = record {
-      worked = t.made.worked;
-      ins_are = t.made.ins_are;
-      rows = subst (λ l. AreResized t.made.worked outs (chunk_rows (held_made h) ++ l)) same
-          t.made.rows;
-      over = λ o fin. false-true (sym none ∙ (t.finished o fin).fetched);
-    };
-    finished = λ o fin. false-true (sym none ∙ (t.finished o fin).fetched);
-  }
+    resized = subst (λ l. AreResized t.worked outs (chunk_rows (held_made h) ++ l)) same
+        t.rows.resized;
+  })
 
   knows-nothing : (held : List ℕ) (a : Wake)
       → KnowsList part' (option_map files_of told) (file_of (Q true (Fetching held) (Ok a)))
@@ -140,26 +154,23 @@ module _ (d e : ReaderState) (count : RowCount) (lists : Bool) (part' : PartSpec
   step-rows : (b : Bool) (s s' : FileState) (a : Wake) → StepsTo told b part' s n s' noted a
       → (ins outs : Lists) → KeepsRows (Some (csv_spec b part')) (P b s) ins outs
       → KeepsRows (Some (csv_spec b part')) (Q b s' (Ok a)) ins outs
-  unfolding kept_output
   step-rows false Shut (Fetching held) wake.Later x ins outs t =
-      unread Shut held wake.Later refl outs t
+      still-unread Shut held wake.Later refl ins outs t
   step-rows false (Fetching held) (Fetching grown) wake.Later x ins outs t =
-      unread (Fetching held) grown wake.Later refl outs t
-  step-rows false (Fetching held) (Rows r) wake.Ready x ins outs t = record {
-    before = λ e. absurd (cc);
-    fetched = λ e.
-        let b = t.before refl in
-        record {
+      still-unread (Fetching held) grown wake.Later refl ins outs t
+  step-rows false (Fetching held) (Rows r) wake.Ready x ins outs t =
+      step-made false (Fetching held) (Rows r) wake.Ready refl ins outs t (record {
+        before = λ e. absurd (cc);
+        fetched = λ e. record {
           bytes = x.bytes;
           are = told-bytes told part'.path x.bytes x.are;
-          rows = ap (λ l. l ++ (chunk_rows (held_made h) ++ good_rows part'.types r.rest))
-              b.nothing_out ∙ ap (λ l. chunk_rows l ++ good_rows part'.types r.rest) b.nothing_waits
+          rows_are =
+              ap (λ l. l ++ good_rows part'.types r.rest) (t.rows.before refl).no_rows
               ∙ ap (good_rows part'.types) x.whole.0;
           bad = ap (λ c. bad_place (c + 1) part'.types r.rest) x.whole.1
               ∙ ap (bad_place 1 part'.types) x.whole.0;
         };
-    finished = λ fin. false-true (t.finished fin).fetched;
-  }
+      })
   step-rows false (Fetching held) s' wake.Ready x ins outs t = absurd x.whole
   step-rows true Shut (Fetching held) wake.Later x ins outs t =
       list-step Shut (Fetching held) wake.Later refl refl (knows-nothing held wake.Later) ins outs t

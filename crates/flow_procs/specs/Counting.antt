@@ -16,4 +16,4 @@ counting_own next end = record idle_own { unmade = map number_row (count_on next
 
 pub numbers_shelled : (end rows : ℕ) → IsShelled (Spec.Numbers end rows)
 numbers_shelled end rows =
-    shelled-of (Spec.Numbers end rows) 0 refl refl (record { ports = λ growth m n h. h })
+    shelled-of (Spec.Numbers end rows) 0 refl (record { ports = λ growth m n h. h })

@@ -4,11 +4,10 @@ use Rattle.flow_procs.specs.Prelude.{Expr, IsMaker, IsShelled, List, Spec, item_
 pub expression_maker : (items : List Expr) → IsMaker (Spec.Expression items) (map (item_row items))
 expression_maker items = record {
   both = map-append (item_row items);
-  plain = refl;
-  into = λ own worked outs wait h. h;
-  from = λ own worked outs wait h. h;
+  into = λ x own worked outs wait h. h;
+  from = λ x own worked outs wait h. h;
 }
 
 pub expression_shelled : (items : List Expr) → IsShelled (Spec.Expression items)
 expression_shelled items =
-    shelled-of (Spec.Expression items) 1 refl refl (record { ports = λ growth m n h. h })
+    shelled-of (Spec.Expression items) 1 refl (record { ports = λ growth m n h. h })

@@ -6,4 +6,4 @@ read_own n = record idle_own { read = n }
 
 pub limit_shelled : (span : Span) → IsShelled (Spec.Limit span)
 limit_shelled span =
-    shelled-of (Spec.Limit span) 1 refl refl (record { ports = λ growth m n h. h })
+    shelled-of (Spec.Limit span) 1 refl (record { ports = λ growth m n h. h })

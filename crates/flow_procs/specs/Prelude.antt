@@ -3,7 +3,7 @@ pub use Rattle.chunk_data.specs.declared.typed_value.Value.TheVariants.{UInt}
 pub use Rattle.proc_api.specs.Names.{OwnState, idle_own}
 pub use Rattle.proc_api.specs.Prelude.{ColumnType, Cond, Expr, Kind, List, Row, Span, Spec, [], holds, item_row, ℕ}
 pub use Rattle.proc_shell.proofs.Resizing.{resize-pushes}
-pub use Rattle.proc_shell.proofs.Through.{IsMaker, shelled-of, shelled-plain}
+pub use Rattle.proc_shell.proofs.Through.{IsMaker, shelled-of}
 pub use Rattle.proc_shell.specs.Names.{IsShelled}
 pub use Rattle.std.proofs.Common.{filter, map, refl, suc, zero}
 pub use Rattle.std.proofs.lemmas.List.{map-append}

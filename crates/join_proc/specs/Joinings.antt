@@ -85,7 +85,7 @@ IsNextOfJoin k _ = ⊥
 
 pub join_shelled : (join : JoinSpec) → IsShelled (spec.HashJoin join)
 join_shelled join =
-    shelled-of (spec.HashJoin join) 2 refl refl (record { ports = λ growth m n h. h })
+    shelled-of (spec.HashJoin join) 2 refl (record { ports = λ growth m n h. h })
 
 abbrev pub join_state : JoiningView → KernelState
 join_state k = kernel_of kind.HashJoin (spec.HashJoin k.join) (join_own k)

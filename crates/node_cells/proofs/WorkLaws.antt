@@ -75,20 +75,8 @@ names-list list files g h none = go (paths_in (Some h.text)) h.names_path h.is
 -- a lawful box gives none
 names-something : (s : Option Spec) (files : Option Files) (g : GrowthForm)
     → MayGrow s files (Some g) → flaw_unreserved g ≡ None → ⊥
-names-something None files g h none = absurd h
 names-something (Some (spec.List list)) files g h none = names-list list files g h none
-names-something (Some (spec.Csv part)) files g h none = absurd h
-names-something (Some (spec.Numbers n rows)) files g h none = absurd h
-names-something (Some (spec.Filter c)) files g h none = absurd h
-names-something (Some (spec.Expression items)) files g h none = absurd h
-names-something (Some spec.Resize) files g h none = absurd h
-names-something (Some (spec.PartialAggregate groups)) files g h none = absurd h
-names-something (Some (spec.MergeAggregate groups)) files g h none = absurd h
-names-something (Some (spec.HashJoin join)) files g h none = absurd h
-names-something (Some (spec.Sort order)) files g h none = absurd h
-names-something (Some (spec.MergeSorted order)) files g h none = absurd h
-names-something (Some (spec.Limit span)) files g h none = absurd h
-names-something (Some spec.Collect) files g h none = absurd h
+names-something s files g h none = absurd h
 
 pub unlawful-grew : (g : GrowthForm) (p q : BoxPicture) → Grew g p q → flaw_unreserved g ≡ None
     → IsTrue q.lawful → ⊥

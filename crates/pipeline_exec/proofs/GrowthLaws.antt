@@ -9,19 +9,9 @@ use Rattle.exec_laws.specs.declared.edges.NodeStatus.TheVariants as node
 -- ---- kinds and places
 
 form-kind : (s : Spec) → form_kind (spec_form s) ≡ kind_of s
-form-kind (spec.Csv part) = refl
-form-kind (spec.List part) = refl
-form-kind (spec.Numbers n rows) = refl
 form-kind (spec.Filter c) = refl
 form-kind (spec.Expression items) = refl
-form-kind spec.Resize = refl
-form-kind (spec.PartialAggregate groups) = refl
-form-kind (spec.MergeAggregate groups) = refl
-form-kind (spec.HashJoin join) = refl
-form-kind (spec.Sort order) = refl
-form-kind (spec.MergeSorted order) = refl
-form-kind (spec.Limit span) = refl
-form-kind spec.Collect = refl
+form-kind s = refl
 
 pub kinds-are : (nodes : List GrowNode) → map form_kind (forms_of nodes) ≡ grown_kinds nodes
 kinds-are [] = refl

@@ -5,8 +5,7 @@ ghost use Rattle.pipeline_exec.specs.Cells.{AreCalled, Each, FailsAt, HasFault, 
 use crate::cell::{Cell, call_cell};
 use crate::executor_state::ExecutorState;
 use exec_laws::{DueCall, NodeStatus};
-use proc_api::{Processor, WorkFault};
-use query_model::processor_spec::Kind;
+use proc_api::{Processor, WorkFault, kind_row};
 use std::thread::{Threads, for_each_mut};
 
 /// A fault, and the node whose box answered it.
@@ -51,14 +50,14 @@ fn call_cells<P: Processor, R: Threads + Sync>(
 }
 
 /// How many threads a round takes: one, unless two nodes at least have work that is longer than a
-/// thread takes to start. A filter or an expression goes once over a chunk.
+/// thread takes to start.
 fn threads_for<P: Processor>(cells: &[Cell<P>], workers: usize) -> usize {
     let long = cells.iter().filter(|cell| is_long(cell)).count();
     if long < 2 { 1 } else { workers }
 }
 
 fn is_long<P: Processor>(cell: &Cell<P>) -> bool {
-    is_at_work(cell) && !matches!(cell.processor.kind(), Kind::Filter | Kind::Expression)
+    is_at_work(cell) && kind_row(cell.processor.kind()).works_long
 }
 
 /// With one thread the library's loop makes none; its clause says what each cell was left as.

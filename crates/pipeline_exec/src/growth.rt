@@ -16,7 +16,7 @@ use chunk_data::{List, Memory};
 use exec_graph::{is_gapless, is_port_taken};
 use exec_laws::{Blank, GrowthFlaw, NodeStatus};
 use port_word::{Reserve, Wire};
-use proc_api::{Edge, GrowNode, Growth, Processor, Who};
+use proc_api::{Edge, GrowNode, Growth, KINDS, Processor, Who};
 use query_model::processor_spec::Kind;
 use std::alloc::Global;
 
@@ -26,22 +26,6 @@ pub(crate) struct GrownGraph {
     pub places: Vec<u32>,
     pub wires: List<Wire>,
 }
-
-const KINDS: [Kind; 13] = [
-    Kind::Csv,
-    Kind::List,
-    Kind::Numbers,
-    Kind::Filter,
-    Kind::Expression,
-    Kind::Resize,
-    Kind::PartialAggregate,
-    Kind::MergeAggregate,
-    Kind::HashJoin,
-    Kind::Sort,
-    Kind::MergeSorted,
-    Kind::Limit,
-    Kind::Collect,
-];
 
 const NO_RESERVE: Reserve = Reserve {
     node: 0,

@@ -1,5 +1,5 @@
 -- What a kind keeps is what it gives, a kind at a time.
-use Rattle.plan_ends.proofs.Imports.{Bool, List, Some, [], ap, append_assoc, arith, false, filter, get_or, inl, inr, length, map, refl, subst, suc, sym, true, zero, ℕ, ◌++◌, ◌+◌, ◌<◌, ◌∙◌, ◌∷◌, ◌≡◌, ◌≤◌, ◌⊎◌, All, All-head, All-nil, All-tail, AllByRecursion, AllFit, Any, BoxPicture, ColumnType, Cond, Expr, Files, FitFrom, FitsInput, Gives, GivesFront, GivesSource, GivesThrough, HasReadEnough, IsItem, IsPulled, IsTypedCond, Keeps, KeepsMade, KeepsPart, KeepsRows, Lists, MakesType, MakesTypes, NodePort, PartSpec, Row, Span, Spec, Table, WorkState, and_parts, append-nil, both_ways, cases_eq, cases_lt, chunk_rows, cond_both, false_from_ne_true, flat_map-append, get_or-map, holds, item_row, kept_output, kept_outputs, length-map, limited, limited-extends, no-rest, no_table, not-true, not_from_false, numbers, ports_of, pulled_types, recursion_from_All, type_of, unworked_at, BoxGives, part_of, sources_of_files, chunk_types, in_stream, out_stream, KeepsContract, KindGives, Extends, filter-append, map-append}
+use Rattle.plan_ends.proofs.Imports.{Bool, List, Some, [], ap, append_assoc, arith, false, filter, get_or, inl, inr, length, map, refl, subst, suc, sym, true, zero, ℕ, ◌++◌, ◌+◌, ◌<◌, ◌∙◌, ◌∷◌, ◌≡◌, ◌≤◌, ◌⊎◌, All, All-head, All-nil, All-tail, AllByRecursion, AllFit, Any, BoxPicture, ColumnType, Cond, Expr, Files, FitFrom, FitsInput, Gives, GivesFront, GivesSource, GivesThrough, HasReadEnough, IsItem, IsPulled, IsTypedCond, Keeps, KeepsMade, KeepsRows, Lists, MakesType, MakesTypes, NodePort, PartSpec, Row, Span, Spec, Table, WorkState, and_parts, append-nil, both_ways, cases_eq, cases_lt, chunk_rows, cond_both, false_from_ne_true, flat_map-append, get_or-map, holds, item_row, kept_output, kept_outputs, length-map, limited, limited-extends, no-rest, no_table, not-true, not_from_false, numbers, ports_of, pulled_types, recursion_from_All, type_of, unworked_at, BoxGives, part_of, sources_of_files, chunk_types, in_stream, out_stream, KeepsContract, KindGives, Extends, filter-append, map-append, IsWorkOf, cond, length-append, nil_from_length, ◌==◌}
 use Rattle.query_model.specs.declared.processor_spec.Spec.TheVariants as spec
 
 -- a box that finished an output which nobody closed has closed no input, but for a limit that has
@@ -204,23 +204,27 @@ part-gives part files takes gives n p ins outs k =
     at-ports n 0 1 k.ports.0 k.ports.1
     (λ h. one-output n h (λ fit. rows h p.work.fetched refl) (λ t e. e)) k
   where
-    keeps : KeepsContract (spec.Csv part) files 0 1 p ins outs → KeepsPart part p outs
+    keeps : KeepsContract (spec.Csv part) files 0 1 p ins outs
+        → KeepsMade (spec.Csv part) p ins outs
     keeps h = kept-rows h (λ i d x lt. tt)
 
     rows : KeepsContract (spec.Csv part) files 0 1 p ins outs → (b : Bool) → p.work.fetched ≡ b
         → GivesSource (part_of files part) (out_stream p outs 0)
     rows h false f =
-        let nothing = (keeps h).before f in
-        let never : (kept_output p 0).fin_out ≡ true → ⊥ = grind (arith, both_ways, keeps) in
+        let rows = ap length ((keeps h).rows.before f).no_rows in
+        let sum = length-append (chunk_rows (outs 0)) (chunk_rows p.work.made) in
+        let nothing : chunk_rows (outs 0) ≡ [] = nil_from_length _ (omega (arith, rows, sum)) in
+        let never : (kept_output p 0).fin_out ≡ true → ⊥ =
+        λ fin. both_ways p.work.fetched f ((keeps h).read 0 fin).fetched in
         record {
           front = record {
             rest = (part_of files part).rows;
-            is = ap (λ l. l ++ (part_of files part).rows) nothing.nothing_out;
+            is = ap (λ l. l ++ (part_of files part).rows) nothing;
             all = λ done. absurd (never (and_parts _ _ done).0);
           };
           valid = λ done. absurd (never (and_parts _ _ done).0);
         }
-    rows h true f = grind (arith, keeps, front-of, and_parts)
+    rows h true f = grind (arith, keeps, front-of, and_parts, append_assoc)
 
 numbers-typed : (count rows : ℕ) (ins : Lists) (from : List (List ColumnType))
     (t : List ColumnType) → MakesTypes (Some (spec.Numbers count rows)) ins t
@@ -234,9 +238,12 @@ numbers-gives count rows files takes gives n p ins outs k =
     (λ h.
     let m = kept-rows h (λ i d x lt. tt) in
     one-output {s = spec.Numbers count rows} n h
-    (λ fit. front-of (numbers count).rows p.work.unmade p outs
-    (sym (append_assoc (chunk_rows (outs 0)) (chunk_rows p.work.made) p.work.unmade) ∙ m.rows)
-    (λ f. let end = m.over 0 f in (end.nothing_waits, end.all_made)))
+    (λ fit. record {
+      front = front-of (numbers count).rows p.work.unmade p outs
+          (sym (append_assoc (chunk_rows (outs 0)) (chunk_rows p.work.made) p.work.unmade) ∙ m.rows)
+          (λ f. let end = m.over 0 f in (end.nothing_waits, end.all_made));
+      valid = λ done. refl;
+    })
     (numbers-typed count rows ins [])) k
 
 -- A limit gives the rows of its span.
@@ -262,3 +269,10 @@ pub collector-done : (p : BoxPicture) (ins outs : Lists) → p.spec ≡ Some spe
     → Keeps p ins outs
     → kept_outputs p ≡ 0 → (in_stream p ins 0).done ≡ true
 collector-done p ins outs e k none = search (arith, not_from_false, false_from_ne_true)
+
+-- and what it gathered are the chunks that it pulled
+pub collector-gathered : (p : BoxPicture) (ins outs : Lists) → IsWorkOf (Some spec.Collect) p.work
+    → KeepsMade spec.Collect p ins outs → p.work.gathered ≡ ins 0
+collector-gathered p ins outs idle m =
+    m.rows ∙ sym (m.ins_are 0 ∙ ap (λ n. m.worked 0 ++ cond (0 == n) p.work.unworked [])
+    (ap (λ w. w.source) idle))

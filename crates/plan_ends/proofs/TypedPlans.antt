@@ -1,7 +1,7 @@
 -- The types that stand at the open ends of a plan. Each block stands before nodes that fit the
 -- types that it leaves.
 use Rattle.std.proofs.lemmas.Grind.{common_steps}
-use Rattle.plan_ends.proofs.Imports.{IfSome, List, None, Option, Some, [], ap, append_assoc, ap₂, arith, length, length-append, map, refl, replicate, subst, suc, sym, zero, ℕ, ◌++◌, ◌∙◌, ◌∷◌, ◌≡◌, All, All-append, AllByRecursion, AllTyped, AreKeyPairs, Cond, DraftNode, Expr, FitsInput, FitsOrder, GroupSpec, Grouped, IsAmong, IsItem, IsTypedFilter, IsTypedShape, OneType, Plain, PlanJoin, SelectPlan, Shape, SortSpec, Span, Spec, Types, TypesFit, TypesTo, append-nil, body_nodes, call_arguments, collector, column_items, filter_nodes, gather_nodes, group_row_types, group_spec, spec_group_types, joint_node, lane_nodes, lane_steps, length-replicate, limit_nodes, map-append, map-map, partial_types, passes-type, plan_nodes, read-is, read_nodes, read_steps, replaced-at, run-at, select_steps, shape_nodes, shape_of, sort_nodes, source_nodes, taken_by, type_of, typed-all, typed-append, ⊤}
+use Rattle.plan_ends.proofs.Imports.{IfSome, List, None, Option, Some, [], ap, append_assoc, ap₂, arith, length, length-append, map, refl, replicate, subst, suc, sym, zero, ℕ, ◌++◌, ◌∙◌, ◌∷◌, ◌≡◌, All, All-append, AllByRecursion, AllTyped, AreKeyPairs, Cond, DraftNode, Expr, FitsInput, FitsOrder, GroupSpec, Grouped, IsAmong, IsItem, IsTypedFilter, IsTypedShape, OneType, Plain, PlanJoin, SelectPlan, Shape, SortSpec, Span, Spec, Types, TypesFit, TypesTo, append-nil, body_nodes, call_arguments, collector, column_items, filter_nodes, gather_nodes, group_row_types, group_spec, spec_group_types, joint_node, lane_nodes, lane_steps, length-replicate, limit_nodes, map-append, map-map, partial_types, passes-type, plan_nodes, read-is, read_nodes, read_steps, replaced-at, run-at, select_steps, shape_nodes, shape_of, sort_nodes, source_nodes, taken_by, type_of, typed-all, typed-append, ⊤, join_step, sort_step, merge_step}
 use Rattle.query_model.specs.declared.processor_spec.Spec.TheVariants as spec
 use Rattle.plan_ends.proofs.ShapeTypes.{calls-fit, columns-are, columns-fit, shape_types, type_at}
 
@@ -98,11 +98,11 @@ module _ (after : List Types) where
       → Typed (gather_nodes order k ++ more) (replicate k v)
   gather-typed more None k v h rest = search (arith, joint-typed, resize-type)
   gather-typed more (Some order) k v h rest =
-      simp append_assoc (lanes-typed _ (spec.Sort order) 11 0 k [] v v refl
+      simp append_assoc (lanes-typed _ (sort_step order) 11 0 k [] v v refl
       (record { fit = (h, tt); makes = λ t us all m. m ∙ sym h.types_are })
-      (joint-typed more (spec.MergeSorted order) 12 k 1 v v
+      (joint-typed more (merge_step order) 12 k 1 v v
       (record {
-        fit = each-fits (spec.MergeSorted order) 0 k v (λ i. h);
+        fit = each-fits (merge_step order) 0 k v (λ i. h);
         makes = λ t us all m. m ∙ sym h.types_are;
       }) rest))
 
@@ -120,7 +120,7 @@ module _ (after : List Types) where
       → Typed more (v ∷ []) → Typed (sort_nodes order ++ more) (v ∷ [])
   sort-typed more None v h rest = rest
   sort-typed more (Some order) v h rest =
-      joint-typed more (spec.Sort order) 11 1 1 v v
+      joint-typed more (sort_step order) 11 1 1 v v
       (record { fit = (h, tt); makes = λ t us all m. m ∙ sym h.types_are }) rest
 
   shape-typed : (more : List DraftNode) (s : Shape) (u : Types) (rows : ℕ)
@@ -175,7 +175,7 @@ module _ (after : List Types) where
   read-steps-typed more ends (Some j) lanes u t rest =
       let m : ℕ = length j.sources in
       let w : Types = j.join.right in
-      let join : Spec = spec.HashJoin j.join in
+      let join : Spec = join_step j in
       let last : List DraftNode = joint_node spec.Resize 4 1 lanes ∷ more in
       let rest' : List DraftNode = joint_node join 3 2 1 ∷ last in
       let resize : DraftNode =

@@ -80,6 +80,7 @@ join-done pairs ins outs q e = grind (arith, or_cases, and_from, both_ways)
 
 inputs-done : (parts : RowsOfSources) (s : Spec) (ins outs : List Stream) → Gives parts s ins outs
     → IsNoLimit s → any_done outs ≡ true → all_done ins ≡ true
+inputs-done parts spec.Resize ins outs g n e = g.inputs_done e
 inputs-done parts s ins outs g n e =
     grind (arith, source-done, one-done, join-done, both_ways, or_cases)
 

@@ -1,7 +1,7 @@
 -- Each plan with few parts and lanes fits.
 use Rattle.std.proofs.lemmas.Grind.{common_steps}
 use Rattle.plan_meaning.proofs.Imports.{List, None, Option, Some, [], arith, length, refl, replicate, ℕ, ◌++◌, ◌<◌, ◌∷◌, ◌≡◌, ◌≤◌, AllFitEnds, Cond, FitsBlock, Levels, SortSpec, Span, Spec, all-front', append-nil, block-append, joint-fit, joint-level, lanes-level, length-replicate, level-append, ranks_after, replaced-at, run-at, same-ranks, source_nodes, sources-fit, stay-level, subst}
-use Rattle.plan_meaning.specs.Plans.{FewJoined, FewSources, IsSmall, PlanJoin, PlanShape, SelectPlan, body_nodes, filter_nodes, gather_nodes, grouped, lane_steps, limit_nodes, plain, plan_nodes, read_nodes, read_steps, select_steps, shape_nodes, sort_nodes}
+use Rattle.plan_meaning.specs.Plans.{FewJoined, FewSources, IsSmall, PlanJoin, PlanShape, SelectPlan, body_nodes, filter_nodes, gather_nodes, grouped, lane_steps, limit_nodes, plain, plan_nodes, read_nodes, read_steps, select_steps, shape_nodes, sort_nodes, join_step, sort_step, merge_step}
 use Rattle.query_model.specs.declared.processor_spec.Spec.TheVariants as spec
 
 filter-level : (f : Option Cond) (q n r t : ℕ) → r < q → q < t
@@ -42,7 +42,7 @@ read-steps-level ends (Some j) lanes r low few fj fl = record {
       (block-append (sources-fit j.sources 1 (2 ∷ []) refl)
       (block-append (join-fit j fj)
       (block-append
-      (joint-fit (spec.HashJoin j.join) 3 2 1 (2 ∷ 2 ∷ []) refl (same-ranks 2 2 3 (omega arith))
+      (joint-fit (join_step j) 3 2 1 (2 ∷ 2 ∷ []) refl (same-ranks 2 2 3 (omega arith))
       (omega arith) (omega arith))
       (joint-fit spec.Resize 4 1 lanes (3 ∷ []) refl (same-ranks 1 3 4 (omega arith))
       (omega arith) fl))));
@@ -66,14 +66,14 @@ gather-level : (order : Option SortSpec) (lanes r : ℕ) → r < 11 → lanes �
     → Levels (gather_nodes order lanes) (replicate lanes r) 1 13
 gather-level None lanes r low few = search (arith, joint-level)
 gather-level (Some o) lanes r low few =
-    level-append (lanes-level (spec.Sort o) 11 lanes r 12 low (omega arith))
-    (λ s less. joint-level (spec.MergeSorted o) 12 lanes 1 s 13 less (omega arith)
+    level-append (lanes-level (sort_step o) 11 lanes r 12 low (omega arith))
+    (λ s less. joint-level (merge_step o) 12 lanes 1 s 13 less (omega arith)
     (omega (arith, few)) (omega arith))
 
 sort-level : (order : Option SortSpec) (r : ℕ) → r < 11 → Levels (sort_nodes order) (replicate 1 r)
     1 13
 sort-level None r low = stay-level 1 r 13 (omega (arith, low))
-sort-level (Some o) r low = joint-level (spec.Sort o) 11 1 1 r 13 low (omega arith) (omega arith)
+sort-level (Some o) r low = joint-level (sort_step o) 11 1 1 r 13 low (omega arith) (omega arith)
     (omega arith)
 
 shape-level : (shape : PlanShape) (order : Option SortSpec) (lanes r : ℕ) → r < 6 → lanes ≤ 16

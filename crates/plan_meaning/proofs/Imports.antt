@@ -1,5 +1,5 @@
 -- The names from outside that this crate's proofs use, in one place.
-pub use Rattle.plan_meaning.specs.Names.{AllInputsDone, AllPull, AllTyped, Completes, Count, EachGives, EachGivesIf, FewJoined, FewSources, FitFrom, Flow, Gives, GivesHeld, GivesIf, GivesJoined, GivesLimited, GivesMerged, GivesResized, GivesSource, GivesThrough, HasCalls, HasRun, HasTypes, HoldsBack, IsAmong, IsCall, IsCut, IsFront, IsMergeOf, IsNoLimit, IsOpenNode, IsPlan, IsPlanOf, IsSmall, IsSourceSpec, IsTold, JoinsSources, MakesRows, MakesType, ManyToOne, MeansNode, NodeForm, NodesMean, OneToNone, OneToOne, PlanAnswers, PlanJoin, PlanRuns, PlanShape, Pulls, RowsOfSources, RunsNode, SelectPlan, Source, SourceRows, StopsEarly, Stream, TwoToOne, Types, TypesFit, TypesNode, TypesTo, all_certain, all_done, all_valid, any_done, any_needs, body_nodes, call_arguments, calls_from, collect_node, collector, column_items, count_over, each_input, each_kept, filter_count, filter_nodes, filter_pulls, flow_rows, flows_of, forms, gather_count, gather_nodes, gather_pulls, group_spec, grouped, grouped_of, if_kind, is_certain, is_count, is_needed, is_valid_source, join_pulls, join_valid, joined_from, kept_for, lane_steps, limit_count, limit_nodes, made_pulls, made_rows, meant_by, merged_rows, needed_valid, node_form, partial_rows, plain, plan_count, plan_keys, plan_nodes, plan_pulls, plan_rows, plan_valid, pulled_by_nodes, pulled_rows, pulled_types, pulls, pulls_from, read_count, read_nodes, read_rows, read_steps, read_valid, rows_together, select_steps, shape_count, shape_nodes, shape_of, shape_pulls, shape_rows, sort_count, sort_nodes, sort_pulls, source_list, sources_count, sources_rows, state_call, stream_rows, valid_from}
+pub use Rattle.plan_meaning.specs.Names.{AllInputsDone, AllPull, AllTyped, Completes, Count, EachGives, EachGivesIf, FewJoined, FewSources, FitFrom, Flow, Gives, GivesHeld, GivesIf, GivesJoined, GivesLimited, GivesMerged, GivesResized, GivesSource, GivesThrough, HasCalls, HasRun, HasTypes, HoldsBack, IsAmong, IsCall, IsCut, IsFront, IsMergeOf, IsNoLimit, IsOpenNode, IsPlan, IsPlanOf, IsSmall, IsSourceSpec, IsTold, JoinsSources, MakesRows, MakesType, ManyToOne, MeansNode, NodeForm, NodesMean, OneToNone, OneToOne, PlanAnswers, PlanJoin, PlanRuns, PlanShape, Pulls, RowsOfSources, RunsNode, SelectPlan, Source, SourceRows, StopsEarly, Stream, TwoToOne, Types, TypesFit, TypesNode, TypesTo, all_certain, all_done, all_valid, any_done, any_needs, body_nodes, call_arguments, calls_from, collect_node, collector, column_items, count_over, each_input, each_kept, filter_count, filter_nodes, filter_pulls, flow_rows, flows_of, forms, gather_count, gather_nodes, gather_pulls, group_spec, grouped, grouped_of, if_kind, is_certain, is_count, is_needed, is_valid_source, join_pulls, join_valid, joined_from, kept_for, lane_steps, limit_count, limit_nodes, made_pulls, made_rows, meant_by, merged_rows, needed_valid, node_form, partial_rows, plain, plan_count, plan_keys, plan_nodes, plan_pulls, plan_rows, plan_valid, pulled_by_nodes, pulled_rows, pulled_types, pulls, pulls_from, read_count, read_nodes, read_rows, read_steps, read_valid, rows_together, select_steps, shape_count, shape_nodes, shape_of, shape_pulls, shape_rows, sort_count, sort_nodes, sort_pulls, source_list, sources_count, sources_rows, state_call, stream_rows, valid_from, join_step, sort_step, merge_step}
 pub use Rattle.std.proofs.Common.{All, Any, Bool, IsPermutation, IsSorted, List, None, Option, Some, [], ap, ap₂, arith, cond, drop, false, filter, flat_map, get_or, inl, inr, is_lt, is_none, leb, length, map, refl, replicate, slice_index_or, subst, suc, sum_by, sym, take, true, zero, ℕ, ◌&&◌, ◌*◌, ◌++◌, ◌+◌, ◌<◌, ◌==◌, ◌||◌, ◌∙◌, ◌∷◌, ◌≡◌, ◌≤◌, ◌⊎◌}
 pub use Rattle.plan_graph.proofs.Drafts.{all-back, all-front, ports-length}
 pub use Rattle.plan_graph.proofs.Fitting.{FitsBlock, Fitted, Levels, all-front', block-append, fits, joint-fit, joint-level, lanes-level, level-append, same-ranks, sources-fit, stay-level}

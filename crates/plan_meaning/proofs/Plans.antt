@@ -1,5 +1,5 @@
 -- The meaning of a plan is the answer of its query.
-use Rattle.plan_meaning.proofs.Imports.{Bool, IsPermutation, IsSorted, List, None, Option, Some, [], ap, ap₂, arith, cond, false, filter, flat_map, inl, inr, length, map, refl, subst, suc, sym, true, zero, ℕ, ◌&&◌, ◌++◌, ◌+◌, ◌<◌, ◌||◌, ◌∙◌, ◌∷◌, ◌≡◌, ◌⊎◌, AggCall, AllByRecursion, AllZip, Cond, Expr, GroupSpec, IsPermutation-append, IsPermutation-filter, IsPermutation-joined_rows, IsPermutation-map, IsPermutation-same, IsPermutation-trans, Row, SortKey, SortSpec, Span, Spec, StateCall, and_from, and_parts, append-nil, both_ways, combine_of, count_up, filter-append, groups_or_default, holds, item_row, joined_rows, joint_node, lane_nodes, leb-true, length-append, length-map, length_permutation, limited, list_all, map-append, merged_groups, merged_in_any_order, or_cases, or_left, or_right, row_cmp, rows_where, source_nodes, Flow, RowsOfSources, all_certain, rows_together, any_needs, flow_rows, IsNoLimit, IsPlan, IsSourceSpec, JoinsSources, PlanJoin, PlanShape, SelectPlan, StopsEarly, all_valid, body_nodes, filter_nodes, filter_pulls, gather_nodes, gather_pulls, grouped, grouped_of, join_pulls, join_valid, joined_from, lane_steps, limit_nodes, made_pulls, made_rows, needed_valid, plain, plan_keys, plan_pulls, plan_valid, pulls, pulls_from, read_nodes, read_rows, read_steps, read_valid, select_steps, shape_nodes, shape_pulls, shape_rows, sort_nodes, sort_pulls, sources_rows, valid_from, calls_from, merged_rows, partial_rows, MakesRows, is_certain, is_needed}
+use Rattle.plan_meaning.proofs.Imports.{Bool, IsPermutation, IsSorted, List, None, Option, Some, [], ap, ap₂, arith, cond, false, filter, flat_map, inl, inr, length, map, refl, subst, suc, sym, true, zero, ℕ, ◌&&◌, ◌++◌, ◌+◌, ◌<◌, ◌||◌, ◌∙◌, ◌∷◌, ◌≡◌, ◌⊎◌, AggCall, AllByRecursion, AllZip, Cond, Expr, GroupSpec, IsPermutation-append, IsPermutation-filter, IsPermutation-joined_rows, IsPermutation-map, IsPermutation-same, IsPermutation-trans, Row, SortKey, SortSpec, Span, Spec, StateCall, and_from, and_parts, append-nil, both_ways, combine_of, count_up, filter-append, groups_or_default, holds, item_row, joined_rows, joint_node, lane_nodes, leb-true, length-append, length-map, length_permutation, limited, list_all, map-append, merged_groups, merged_in_any_order, or_cases, or_left, or_right, row_cmp, rows_where, source_nodes, Flow, RowsOfSources, all_certain, rows_together, any_needs, flow_rows, IsNoLimit, IsPlan, IsSourceSpec, JoinsSources, PlanJoin, PlanShape, SelectPlan, StopsEarly, all_valid, body_nodes, filter_nodes, filter_pulls, gather_nodes, gather_pulls, grouped, grouped_of, join_pulls, join_valid, joined_from, lane_steps, limit_nodes, made_pulls, made_rows, needed_valid, plain, plan_keys, plan_pulls, plan_valid, pulls, pulls_from, read_nodes, read_rows, read_steps, read_valid, select_steps, shape_nodes, shape_pulls, shape_rows, sort_nodes, sort_pulls, sources_rows, valid_from, calls_from, merged_rows, partial_rows, MakesRows, is_certain, is_needed, join_step, sort_step, merge_step}
 use Rattle.plan_meaning.proofs.Blocks.{Alone, Block, Both, Form, LaneMade, Spread, alone-to, block-so, block-then, form-block, joint-block, lanes-block, no-block, resize-behind, resize-block, sources-block}
 use Rattle.plan_meaning.proofs.Fitting.{read-is}
 use Rattle.query_model.specs.declared.processor_spec.Spec.TheVariants as spec
@@ -121,7 +121,7 @@ module _ (parts : RowsOfSources) where
   lanes-need s passes ys zs h e = grind arith
 
   lanes-sorted : (order : SortSpec) (ys zs : List Flow)
-      → AllZip (LaneMade parts (spec.Sort order)) ys zs
+      → AllZip (LaneMade parts (sort_step order)) ys zs
       → SortedLanes order.keys (length zs) (rows_together (flow_rows ys)) (all_certain ys) zs
   lanes-sorted order (y ∷ ys) (z ∷ zs) h =
       search (
@@ -208,16 +208,16 @@ module _ {parts : RowsOfSources} {unlimited : Type 0} where
       (resize-behind 2 1 m 1 (Spread 1 left v true) right w true (omega arith) (λ l h. h.count))
       (block-then
       (block-so (λ l b. two-flows b) (one-spread rows (v && w) w) (λ k. refl)
-      (form-block (spec.HashJoin j.join) 3 2 (λ (p : Flow × Flow). p.0 ∷ p.1 ∷ [])
+      (form-block (join_step j) 3 2 (λ (p : Flow × Flow). p.0 ∷ p.1 ∷ [])
       (λ p. One left v true p.0 × One right w true p.1) (One rows (v && w) w)
-      (λ k. pulls k (spec.HashJoin j.join) (length left + length right)) (λ u. tt) (λ p. refl)
+      (λ k. pulls k (join_step j) (length left + length right)) (λ u. tt) (λ p. refl)
       (λ p out h makes. record {
         same = IsPermutation-trans _ _ _
             (IsPermutation-joined_rows j.join.pairs _ _ _ _ h.0.same h.1.same) makes;
         certain = grind (arith, and_parts, and_from);
         needs = λ e. h.1.certain (and_parts p.0.needs p.1.certain e).1;
       })
-      (λ k p u h. ap (pulls k (spec.HashJoin j.join))
+      (λ k p u h. ap (pulls k (join_step j))
       (let a = length_permutation _ _ h.0.same in
       let b = one-rows right w true p.1 h.1 in
       omega (arith, a, b, length-append p.0.rows (p.1.rows ++ []))))))
@@ -257,7 +257,7 @@ module _ {parts : RowsOfSources} {unlimited : Type 0} where
   gather-block None lanes rows c n = block-so (λ l h. h) (unordered rows c n)
       (λ k. refl) (resize-block 12 lanes 1 rows c n (omega arith))
   gather-block (Some order) lanes rows c n =
-      block-then (lanes-block (spec.Sort order) 11 lanes rows c n
+      block-then (lanes-block (sort_step order) 11 lanes rows c n
       (SortedLanes order.keys lanes rows c) tt
       (λ ys zs h each count.
       let made = lanes-sorted parts order ys zs each in
@@ -268,9 +268,9 @@ module _ {parts : RowsOfSources} {unlimited : Type 0} where
         certain = λ e. h.certain (made.certain e);
         needs = λ e. h.certain (made.needs e);
       }))
-      (joint-block (spec.MergeSorted order) 12 lanes
+      (joint-block (merge_step order) 12 lanes
       (SortedLanes order.keys lanes rows c) (Ordered order.keys rows c c)
-      (λ k. pulls k (spec.MergeSorted order) (length rows)) (λ u. tt) (λ l h. h.count)
+      (λ k. pulls k (merge_step order) (length rows)) (λ u. tt) (λ l h. h.count)
       (λ t out h makes. record {
         one = record {
           same = IsPermutation-trans _ _ _ h.same makes.same;
@@ -279,7 +279,7 @@ module _ {parts : RowsOfSources} {unlimited : Type 0} where
         };
         in_order = makes.in_order h.in_order;
       })
-      (λ k t u told h. ap (pulls k (spec.MergeSorted order)) (length_permutation _ _ h.same)))
+      (λ k t u told h. ap (pulls k (merge_step order)) (length_permutation _ _ h.same)))
 
   sort-block : (order : Option SortSpec) (rows : List Row) (c : Bool)
       → Block parts unlimited (sort_nodes order) (Spread 1 rows c c)
@@ -287,8 +287,8 @@ module _ {parts : RowsOfSources} {unlimited : Type 0} where
   sort-block None rows c = no-block (unordered rows c c)
   sort-block (Some order) rows c = block-so (spread-one rows c c) (λ l a. a)
       (λ k. refl)
-      (form-block (spec.Sort order) 11 1 (λ f. f ∷ []) (One rows c c) (Ordered order.keys rows c c)
-      (λ k. pulls k (spec.Sort order) (length rows)) (λ u. tt) (λ f. refl)
+      (form-block (sort_step order) 11 1 (λ f. f ∷ []) (One rows c c) (Ordered order.keys rows c c)
+      (λ k. pulls k (sort_step order) (length rows)) (λ u. tt) (λ f. refl)
       (λ f out h makes. record {
         one = record {
           same = IsPermutation-trans _ _ _ h.same makes.same;
@@ -297,7 +297,7 @@ module _ {parts : RowsOfSources} {unlimited : Type 0} where
         };
         in_order = makes.in_order;
       })
-      (λ k f u h. ap (pulls k (spec.Sort order)) (one-rows rows c c f h)))
+      (λ k f u h. ap (pulls k (sort_step order)) (one-rows rows c c f h)))
 
   partial-block : (g : GroupSpec) (lanes : ℕ) (rows : List Row) (c n : Bool)
       → Block parts unlimited (lane_nodes (spec.PartialAggregate g) 7 0 lanes)

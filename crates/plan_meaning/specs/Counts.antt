@@ -3,7 +3,7 @@
 use Rattle.std.specs.Prelude.{List, None, Option, Some, cond, length, sum_by, ℕ, ◌*◌, ◌+◌}
 use Rattle.plan_meaning.specs.Prelude.{Cond, DraftNode, Kind, SortSpec, Span, Spec, kind_of, same_kind}
 use Rattle.query_model.specs.declared.processor_spec.Spec.TheVariants as spec
-use Rattle.plan_meaning.specs.Plans.{PlanShape, plain, grouped, PlanJoin, SelectPlan, kept_for}
+use Rattle.plan_meaning.specs.Plans.{PlanShape, plain, grouped, PlanJoin, SelectPlan, kept_for, join_step, sort_step, merge_step}
 
 -- what a node counts, by its spec and its number of inputs
 abbrev pub Count : Type 0
@@ -31,7 +31,7 @@ abbrev pub read_count : Count → List Spec → Option PlanJoin → ℕ
 read_count w sources None = sources_count w sources + w spec.Resize (length sources)
 read_count w sources (Some j) =
     sources_count w sources + (w spec.Resize (length sources) + (sources_count w j.sources
-    + (w spec.Resize (length j.sources) + (w (spec.HashJoin j.join) 2 + w spec.Resize 1))))
+    + (w spec.Resize (length j.sources) + (w (join_step j) 2 + w spec.Resize 1))))
 
 abbrev pub filter_count : Count → Option Cond → ℕ → ℕ
 filter_count w None lanes = 0
@@ -40,11 +40,11 @@ filter_count w (Some c) lanes = lanes * w (spec.Filter c) 1
 abbrev pub gather_count : Count → Option SortSpec → ℕ → ℕ
 gather_count w None lanes = w spec.Resize lanes
 gather_count w (Some order) lanes =
-    lanes * w (spec.Sort order) 1 + w (spec.MergeSorted order) lanes
+    lanes * w (sort_step order) 1 + w (merge_step order) lanes
 
 abbrev pub sort_count : Count → Option SortSpec → ℕ
 sort_count w None = 0
-sort_count w (Some order) = w (spec.Sort order) 1
+sort_count w (Some order) = w (sort_step order) 1
 
 abbrev pub shape_count : Count → PlanShape → Option SortSpec → ℕ → ℕ
 shape_count w (plain items) order lanes =

@@ -1,8 +1,7 @@
 -- What each kind gives by the end of a run.
-use Rattle.std.specs.Prelude.{Bool, IsPermutation, IsSorted, List, Some, [], false, filter, length, map, true, ◌++◌, ◌<◌, ◌≡◌, ◌≤◌, ◌⊎◌}
-use Rattle.plan_meaning.specs.Prelude.{AllByRecursion, Contains, IsSortOf, KeyPair, Row, SortKey, Span, Spec, enough, holds, is_lt, item_row, joined_rows, limited, merged_rows, numbers, partial_rows, row_cmp}
-use Rattle.plan_meaning.specs.Streams.{ManyToOne, OneToNone, OneToOne, RowsOfSources, Source, SourceRows, Stream, TwoToOne, all_done, any_done, rows_together, stream_rows}
-use Rattle.query_model.specs.declared.processor_spec.Spec.TheVariants as spec
+use Rattle.std.specs.Prelude.{Bool, IsPermutation, IsSorted, List, Some, [], false, length, true, ◌++◌, ◌<◌, ◌≡◌, ◌≤◌, ◌⊎◌}
+use Rattle.plan_meaning.specs.Prelude.{AllByRecursion, Contains, KeyPair, Row, SortKey, Span, enough, is_lt, joined_rows, limited, row_cmp}
+use Rattle.plan_meaning.specs.Streams.{SourceRows, Stream, all_done, any_done, rows_together, stream_rows}
 
 -- lists in order, merged
 pub record IsMergeOf (keys : List SortKey) (lists : List (List Row)) (out : List Row) : Type 0 where
@@ -86,26 +85,3 @@ pub record GivesMerged (keys : List SortKey) (ins : List Stream) (o : Stream) : 
   pub held : 0 < length o.rows → AllByRecursion (HoldsBack keys o.rows) ins
   pub nothing_waits : o.done ≡ true → waits ≡ []
   pub inputs_done : o.done ≡ true → all_done ins ≡ true
-
-abbrev pub Gives : RowsOfSources → Spec → List Stream → List Stream → Type 0
-Gives parts (spec.Csv part) ins outs = Source (GivesSource (parts (spec.Csv part))) ins outs
-Gives parts (spec.List list) ins outs = Source (GivesListed (parts (spec.List list))) ins outs
-Gives parts (spec.Numbers n rows) ins outs = Source (GivesFront (numbers n).rows) ins outs
-Gives parts (spec.Filter c) ins outs = OneToOne (GivesThrough (filter (holds c))) ins outs
-Gives parts (spec.Expression items) ins outs = OneToOne (GivesThrough (map (item_row items))) ins
-    outs
-Gives parts spec.Resize ins outs = GivesResized ins outs
-Gives parts (spec.Limit span) ins outs = OneToOne (GivesLimited span) ins outs
-Gives parts spec.Collect ins outs = OneToNone ins outs
-Gives parts (spec.PartialAggregate g) ins outs =
-    OneToOne (λ (i o : Stream). GivesHeld (λ rows. IsPermutation (partial_rows g i.rows) rows)
-    i.done o) ins outs
-Gives parts (spec.MergeAggregate g) ins outs =
-    ManyToOne
-    (λ (is : List Stream) (o : Stream). GivesHeld
-    (λ rows. IsPermutation (merged_rows g (rows_together (stream_rows is))) rows) (all_done is) o)
-    ins outs
-Gives parts (spec.HashJoin join) ins outs = TwoToOne (GivesJoined join.pairs) ins outs
-Gives parts (spec.Sort order) ins outs =
-    OneToOne (λ (i o : Stream). GivesHeld (IsSortOf order.keys i.rows) i.done o) ins outs
-Gives parts (spec.MergeSorted order) ins outs = ManyToOne (GivesMerged order.keys) ins outs

@@ -1,7 +1,7 @@
 pub mod Prelude
 pub mod Streams
 pub mod Gives
-pub mod Makes
+pub mod Roles
 pub mod Runs
 pub mod Meaning
 pub mod Types

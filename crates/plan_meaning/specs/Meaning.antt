@@ -3,7 +3,7 @@ use Rattle.std.specs.Prelude.{List, [], length, true, ℕ, ◌++◌, ◌+◌, �
 use Rattle.plan_meaning.specs.Prelude.{AllZip, DraftNode, Kind, Row, given_by, taken_by}
 use Rattle.plan_meaning.specs.Runs.{AllInputsDone, PlanRuns, if_kind, pulled_by_nodes}
 use Rattle.plan_meaning.specs.Streams.{Flow, RowsOfSources, Stream, flow_rows, flows_of, rows_together}
-use Rattle.plan_meaning.specs.Makes.{MakesRows, is_certain, is_needed}
+use Rattle.plan_meaning.specs.Roles.{MakesRows, is_certain, is_needed}
 
 -- ---- the meaning of a list of nodes
 

@@ -1,6 +1,7 @@
 -- The plan of a query as a list of nodes, and what it answers.
 use Rattle.std.specs.Prelude.{Bool, List, None, Option, Some, [], cond, false, flat_map, length, map, sum_by, true, ℕ, ⊤, ◌&&◌, ◌++◌, ◌+◌, ◌<◌, ◌∷◌, ◌≡◌, ◌≤◌, ◌⊎◌}
-use Rattle.plan_meaning.specs.Prelude.{AllByRecursion, Cond, DraftNode, Expr, GroupSpec, IsOrderedAnswer, JoinSpec, Kind, Row, SortKey, SortSpec, Span, Spec, default_states, enough, groups_or_default, item_row, joined_rows, joint_node, kind_of, lane_nodes, list_all, numbers, partial_rows, rows_where, same_kind, source_nodes}
+use Rattle.plan_meaning.specs.Prelude.{AllByRecursion, Cond, DraftNode, Expr, GroupSpec, IsOrderedAnswer, JoinSpec, Kind, Row, SortKey, SortSpec, Span, Spec, default_states, enough, groups_or_default, item_row, joined_rows, joint_node, kind_of, lane_nodes, list_all, partial_rows, rows_where, same_kind, source_nodes}
+use Rattle.plan_meaning.specs.Roles.{IsSourceSpec, is_valid_source, source_list}
 use Rattle.plan_meaning.specs.Streams.{RowsOfSources}
 use Rattle.query_model.specs.declared.processor_spec.Kind.TheVariants as kind
 use Rattle.query_model.specs.declared.processor_spec.Spec.TheVariants as spec
@@ -35,6 +36,16 @@ pub record SelectPlan : Type 0 where
   pub limit : Option Span
   pub lanes : ℕ
 
+-- the steps that join, sort and merge
+abbrev pub join_step : PlanJoin → Spec
+join_step j = spec.HashJoin j.join
+
+abbrev pub sort_step : SortSpec → Spec
+sort_step order = spec.Sort order
+
+abbrev pub merge_step : SortSpec → Spec
+merge_step order = spec.MergeSorted order
+
 -- From so many open ends with the rows of FROM to the lanes, joined with the second table where
 -- there is one. The ends are those of a table's sources, or the one end of a subquery.
 abbrev pub read_steps : ℕ → Option PlanJoin → ℕ → List DraftNode
@@ -43,7 +54,7 @@ read_steps ends (Some j) lanes =
     joint_node spec.Resize 2 ends 1
     ∷ (source_nodes 1 j.sources
     ++ (record { spec = spec.Resize; rank = 2; offset = 1; takes = length j.sources; gives = 1 }
-    ∷ joint_node (spec.HashJoin j.join) 3 2 1
+    ∷ joint_node (join_step j) 3 2 1
     ∷ joint_node spec.Resize 4 1 lanes
     ∷ []))
 
@@ -56,12 +67,12 @@ read_nodes sources (Some j) lanes =
 -- so many lanes to one, in the order of the keys where there is one
 abbrev pub gather_nodes : Option SortSpec → ℕ → List DraftNode
 gather_nodes None lanes = joint_node spec.Resize 12 lanes 1 ∷ []
-gather_nodes (Some order) lanes = lane_nodes (spec.Sort order) 11 0 lanes
-    ++ joint_node (spec.MergeSorted order) 12 lanes 1 ∷ []
+gather_nodes (Some order) lanes = lane_nodes (sort_step order) 11 0 lanes
+    ++ joint_node (merge_step order) 12 lanes 1 ∷ []
 
 abbrev pub sort_nodes : Option SortSpec → List DraftNode
 sort_nodes None = []
-sort_nodes (Some order) = joint_node (spec.Sort order) 11 1 1 ∷ []
+sort_nodes (Some order) = joint_node (sort_step order) 11 1 1 ∷ []
 
 abbrev pub shape_nodes : PlanShape → Option SortSpec → ℕ → List DraftNode
 shape_nodes (plain items) order lanes = lane_nodes (spec.Expression items) 6 0 lanes ++ gather_nodes
@@ -98,13 +109,6 @@ collect_node = collector 14
 abbrev pub plan_nodes : SelectPlan → List DraftNode
 plan_nodes p = body_nodes p ++ collect_node ∷ []
 
--- the kinds that read no rows of others
-abbrev pub IsSourceSpec : Spec → Type 0
-IsSourceSpec (spec.Csv part) = ⊤
-IsSourceSpec (spec.List list) = ⊤
-IsSourceSpec (spec.Numbers n rows) = ⊤
-IsSourceSpec _ = ⊥
-
 abbrev pub JoinsSources : Option PlanJoin → Type 0
 JoinsSources None = ⊤
 JoinsSources (Some j) = AllByRecursion IsSourceSpec j.sources
@@ -134,18 +138,6 @@ pub record IsSmall (p : SelectPlan) : Type 0 where
   pub few_lanes : p.lanes ≤ 16
 
 -- ---- its answer
-
--- the rows of a source, and whether they are all that its part should have
-abbrev pub source_list : RowsOfSources → Spec → List Row
-source_list parts (spec.Csv part) = (parts (spec.Csv part)).rows
-source_list parts (spec.List list) = (parts (spec.List list)).rows
-source_list parts (spec.Numbers n rows) = (numbers n).rows
-source_list parts _ = []
-
-abbrev pub is_valid_source : RowsOfSources → Spec → Bool
-is_valid_source parts (spec.Csv part) = (parts (spec.Csv part)).valid
-is_valid_source parts (spec.List list) = (parts (spec.List list)).valid
-is_valid_source parts _ = true
 
 abbrev pub sources_rows : RowsOfSources → List Spec → List Row
 sources_rows parts sources = flat_map (source_list parts) sources
@@ -233,7 +225,7 @@ pulls k s n = cond (same_kind (kind_of s) k) n 0
 -- a join of FROM's rows
 abbrev pub pulls_from : Kind → RowsOfSources → Option PlanJoin → List Row → ℕ
 pulls_from k parts None left = 0
-pulls_from k parts (Some j) left = pulls k (spec.HashJoin j.join)
+pulls_from k parts (Some j) left = pulls k (join_step j)
     (length left + length (sources_rows parts j.sources))
 
 abbrev pub join_pulls : Kind → RowsOfSources → List Spec → Option PlanJoin → ℕ
@@ -245,11 +237,11 @@ filter_pulls k (Some c) n = pulls k (spec.Filter c) n
 
 abbrev pub gather_pulls : Kind → Option SortSpec → ℕ → ℕ
 gather_pulls k None n = 0
-gather_pulls k (Some order) n = pulls k (spec.Sort order) n + pulls k (spec.MergeSorted order) n
+gather_pulls k (Some order) n = pulls k (sort_step order) n + pulls k (merge_step order) n
 
 abbrev pub sort_pulls : Kind → Option SortSpec → ℕ → ℕ
 sort_pulls k None n = 0
-sort_pulls k (Some order) n = pulls k (spec.Sort order) n
+sort_pulls k (Some order) n = pulls k (sort_step order) n
 
 -- of the filtered rows
 abbrev pub shape_pulls : Kind → PlanShape → Option SortSpec → List Row → ℕ

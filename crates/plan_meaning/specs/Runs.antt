@@ -1,7 +1,7 @@
 -- A run of a list of nodes, over what stands at the open ends.
 use Rattle.std.specs.Prelude.{List, [], cond, length, map, suc, true, ℕ, ⊤, ◌++◌, ◌+◌, ◌<◌, ◌∷◌, ◌≡◌}
-use Rattle.plan_meaning.specs.Prelude.{All, AllZip, ColumnType, DraftNode, Kind, NodePort, Row, Spec, Wire, consumer_of, given_by, kind_of, no_draft, ports_of, producer_of, same_kind, taken_by, with_nodes}
-use Rattle.plan_meaning.specs.Gives.{Gives}
+use Rattle.plan_meaning.specs.Prelude.{All, AllZip, ColumnType, DraftNode, Kind, NodePort, Row, Wire, consumer_of, given_by, kind_of, no_draft, ports_of, producer_of, same_kind, taken_by, with_nodes}
+use Rattle.plan_meaning.specs.Roles.{Gives}
 use Rattle.proc_api.specs.SpecContracts.{IsNoLimit}
 use Rattle.plan_meaning.specs.Streams.{RowsOfSources, Stream, all_done, rows_together, stream_rows}
 

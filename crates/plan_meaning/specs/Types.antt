@@ -1,13 +1,9 @@
 -- The types of the chunks that pass: what a kind keeps holds as long as each chunk that it pulled
 -- fits.
-use Rattle.std.specs.Prelude.{List, Some, [], flat_map, map, replicate, suc, ℕ, ⊤, ◌++◌, ◌∷◌, ◌≡◌}
-use Rattle.plan_meaning.specs.Prelude.{AllByRecursion, Any, ColumnType, DraftNode, FitsInput, NodePort, Spec, given_by, numbers, ports_of, spec_group_types, taken_by, type_of}
-use Rattle.query_model.specs.declared.processor_spec.Spec.TheVariants as spec
+use Rattle.std.specs.Prelude.{List, Some, [], flat_map, map, replicate, suc, ℕ, ⊤, ◌∷◌, ◌≡◌}
+use Rattle.plan_meaning.specs.Prelude.{AllByRecursion, DraftNode, FitsInput, NodePort, Spec, given_by, ports_of, taken_by}
 use Rattle.plan_meaning.specs.Streams.{RowsOfSources, Stream}
-use Rattle.plan_meaning.specs.Gives.{Gives}
-
-abbrev pub Types : Type 0
-Types = List ColumnType
+use Rattle.plan_meaning.specs.Roles.{Gives, IsAmong, MakesType, Types}
 
 -- the chunks that pass have these types
 abbrev pub HasTypes : Stream → Types → Type 0
@@ -26,26 +22,6 @@ TypesFit s i (t ∷ types) = FitsInput (Some s) i t × TypesFit s (suc i) types
 -- the types of the chunks that were pulled
 abbrev pub pulled_types : List Stream → List Types
 pulled_types ins = flat_map (λ (s : Stream). s.types) ins
-
--- one of these types
-abbrev pub IsAmong : List Types → Types → Type 0
-IsAmong ins t = Any (λ u. t ≡ u) ins
-
--- what a kind makes of a chunk of some of these types
-abbrev pub MakesType : Spec → List Types → Types → Type 0
-MakesType (spec.Csv part) ins t = t ≡ part.types
-MakesType (spec.List list) ins t = t ≡ list.types
-MakesType (spec.Numbers n rows) ins t = t ≡ (numbers n).types
-MakesType (spec.Expression items) ins t = Any (λ u. t ≡ map (λ e. type_of e u) items) ins
-MakesType (spec.PartialAggregate g) ins t = t ≡ spec_group_types g
-MakesType (spec.MergeAggregate g) ins t = t ≡ spec_group_types g
-MakesType (spec.HashJoin join) ins t = t ≡ join.left ++ join.right
-MakesType (spec.Sort order) ins t = t ≡ order.types
-MakesType (spec.MergeSorted order) ins t = t ≡ order.types
-MakesType (spec.Filter c) ins t = IsAmong ins t
-MakesType spec.Resize ins t = IsAmong ins t
-MakesType (spec.Limit span) ins t = IsAmong ins t
-MakesType spec.Collect ins t = IsAmong ins t
 
 -- a kind's promises, which hold as long as each chunk that it pulled fits
 pub record GivesIf (parts : RowsOfSources) (s : Spec) (ins outs : List Stream) : Type 0 where

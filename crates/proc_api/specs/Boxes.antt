@@ -121,6 +121,16 @@ file_of p = record {
   growth = p.growth;
 }
 
+-- What a processor was given to read: the files that its reader tells, what is known of the one
+-- that it reads, and the chunks that it pulled and hasn't worked yet.
+pub record Reading : Type 0 where
+  pub files : Option Files
+  pub file : FileSeen
+  pub unworked : List Table
+
+abbrev pub reading_of : BoxPicture → Reading
+reading_of p = record { files = p.files; file = file_of p; unworked = p.work.unworked }
+
 abbrev pub idle_work : WorkState
 idle_work = record {
   unworked = [];

@@ -1,13 +1,11 @@
 -- The processor contract: what a box keeps of the chunks that it pulled and pushed.
 use Rattle.std.specs.Prelude.{◌++◌, ◌<◌, ◌≡◌, ◌≤◌, ◌⊎◌}
-use Rattle.proc_api.specs.Prelude.{All, None, Option, PartSpec, Prepared, Some, Spec, Status, Table, [], false, is_in_finished, length, max, no_flags, slice_index_or, true, ℕ, ⊤}
-use Rattle.query_model.specs.declared.processor_spec.Spec.TheVariants as spec
-use Rattle.proc_api.specs.Boxes.{BoxPicture, PortFlags, WorkState, kept_input, kept_inputs, kept_output, kept_outputs, kept_ports, own_of, unworked_at}
+use Rattle.proc_api.specs.Prelude.{All, None, Option, Prepared, Some, Spec, Status, Table, [], false, is_in_finished, length, max, no_flags, slice_index_or, true, ℕ, ⊤}
+use Rattle.proc_api.specs.Boxes.{BoxPicture, PortFlags, WorkState, file_of, kept_input, kept_inputs, kept_output, kept_outputs, kept_ports, own_of, reading_of, unworked_at}
 use Rattle.proc_api.specs.Histories.{Lists, chunk_rows, last_count, total_rows}
 use Rattle.proc_api.specs.KindContract.{IsPulled}
 use Rattle.proc_api.specs.Ports.{is_ended}
-use Rattle.proc_api.specs.SpecContracts.{ArePortsOf, FitsInput, HasMade, HasNotedEnd, HasReadEnough, IsWorkOf, MakesTypes, NotesEnd, contract_of, most_rows}
-use Rattle.proc_api.specs.kinds.List.{KeepsListed}
+use Rattle.proc_api.specs.SpecContracts.{ArePortsOf, FitsInput, HasMade, HasNotedEnd, HasReadEnough, IsReadOut, IsWorkOf, MakesTypes, NotesEnd, most_rows}
 
 -- ---- rows and types
 
@@ -19,22 +17,19 @@ pub record IsOver (s : Spec) (w : WorkState) : Type 0 where
   pub all_made : w.unmade ≡ []
   pub noted : HasNotedEnd s (own_of w)
 
--- The first chunks of each input are worked, and of them it has made what its kind says.
+-- The first chunks of each input are worked, and of them and of its file it has made what its kind
+-- says.
 pub record KeepsMade (s : Spec) (p : BoxPicture) (ins outs : Lists) : Type 0 where
   pub worked : Lists
   pub ins_are : (i : ℕ) → ins i ≡ worked i ++ unworked_at p.work i
-  pub rows : HasMade s (own_of p.work) worked outs (chunk_rows p.work.made)
+  pub rows : HasMade (reading_of p) s (own_of p.work) worked outs (chunk_rows p.work.made)
   pub over : (o : ℕ) → (kept_output p o).fin_out ≡ true → IsOver s p.work
+  pub read : (o : ℕ) → (kept_output p o).fin_out ≡ true → IsReadOut s (file_of p)
 
--- A list of parts that keeps what its kind has made.
-abbrev pub KeepsList : PartSpec → BoxPicture → (ins outs : Lists) → Type 0
-KeepsList list p ins outs = KeepsListed list (KeepsMade (spec.List list) p ins outs) p
-
--- The rows that a box keeps: what its kind has made, or what its contract says instead.
+-- the rows that a box keeps
 abbrev pub KeepsRows : Option Spec → BoxPicture → Lists → Lists → Type 0
 KeepsRows None p ins outs = ⊤
-KeepsRows (Some s) p ins outs =
-    (contract_of (Some s)).traits.keeps (KeepsMade s p ins outs) p ins outs
+KeepsRows (Some s) p ins outs = KeepsMade s p ins outs
 
 -- each chunk that was pulled fits
 abbrev pub AllFit : Option Spec → Lists → Type 0

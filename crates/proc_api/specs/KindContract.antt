@@ -1,8 +1,8 @@
 -- What is said of a kind of processors, in one record: that of each kind stands in the file of its
 -- name in `kinds/`, with the words of its own. Here is what several kinds share.
-use Rattle.std.specs.Prelude.{◌++◌, ◌<◌, ◌≡◌}
+use Rattle.std.specs.Prelude.{◌<◌, ◌≡◌}
 pub use Rattle.proc_api.specs.Prelude.{All, AllByRecursion, Bool, ColumnType, Cond, Contains, Edge, Expr, Files, GroupSpec, IfSome, IsItem, IsPermutation, IsSorted, IsTypedCond, JoinSpec, KeyPair, List, Me, New, None, Option, PartSpec, Row, Some, SortKey, SortSpec, Span, Table, Who, [], bad_line_in, bad_place, cond, count_by, drop, enough, false, file_bytes, filter, flat_map, good_rows, holds, is_lt, item_row, joined_rows, length, limited, list_all, map, min, nat_lt, numbers, part_records, paths_in, row_cmp, slice_index_or, suc, true, type_of, zero, ℕ, ⊤}
-pub use Rattle.proc_api.specs.Boxes.{BoxPicture, FileSeen, InputHead, OwnState, PortFlags, WorkState, file_of, idle_work, kept_output, unworked_at}
+pub use Rattle.proc_api.specs.Boxes.{FileSeen, InputHead, OwnState, PortFlags, Reading, WorkState, idle_work, unworked_at}
 pub use Rattle.proc_api.specs.Forms.{GrowthForm, unboxed}
 pub use Rattle.proc_api.specs.Histories.{Lists, all_rows, chunk_rows}
 
@@ -46,8 +46,10 @@ pub record KindTraits : Type 1 where
   -- its reader tells
   pub part : Option PartSpec
   pub grows : Option Files → GrowthForm → Type 0
-  -- what its box keeps, where the first of these says that it keeps what it has made
-  pub keeps : Type 0 → BoxPicture → (ins outs : Lists) → Type 0
+  -- by what it lets its graph grow, where its list names these paths
+  pub growth : List (List ℕ) → Option GrowthForm
+  -- what is known of its file once it has itself finished an output
+  pub read_out : FileSeen → Type 0
 
 pub record KindContract : Type 1 where
   -- so many inputs and outputs are the ports of the spec and the growth
@@ -62,9 +64,9 @@ pub record KindContract : Type 1 where
   pub most_rows : Option ℕ
   -- what it doesn't use of the state is idle
   pub idle : WorkState → Type 0
-  -- What it has made of its inputs: its own state, the chunks of each input that it worked, those
-  -- that left by each output, and the rows that wait.
-  pub made : OwnState → (worked outs : Lists) → (wait : List Row) → Type 0
+  -- What it has made of what it was given to read: its own state, the chunks of each input that it
+  -- worked, those that left by each output, and the rows that wait.
+  pub made : Reading → OwnState → (worked outs : Lists) → (wait : List Row) → Type 0
   pub traits : KindTraits
 
 -- ---- what several kinds share
@@ -84,7 +86,8 @@ chunk_by_chunk = record {
   ungrown = ⊤;
   part = None;
   grows = λ files g. ⊥;
-  keeps = λ made p ins outs. made;
+  growth = λ paths. None;
+  read_out = λ f. ⊤;
 }
 
 -- it reads all inputs to their ends before it makes a row

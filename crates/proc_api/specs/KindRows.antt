@@ -1,33 +1,47 @@
--- What is said of a kind by itself, in one row.
+-- What is said of a kind by itself, in one row; `src/kind_rows.rt` has the same for the program.
 use Rattle.proc_api.specs.Prelude.{Kind, List, Table, [], cond, false, true, Bool, ℕ}
 use Rattle.query_model.specs.declared.processor_spec.Kind.TheVariants as kind
 use Rattle.proc_api.specs.Boxes.{WorkState}
 use Rattle.std.specs.Prelude.{◌∷◌, codes}
 
-pub record KindRow : Type 0 where
+pub record KindFacts : Type 0 where
+  -- its place in the order of kinds
   pub place : ℕ
+  -- as lines print it
   pub name : List ℕ
+  -- how many boxes of it the standard stock has
   pub stock : ℕ
+  -- its work is longer than a thread takes to start
+  pub works_long : Bool
+  -- what it pulls leaves as it is, so that there is nothing to work
+  pub passes_on : Bool
+  -- it hands out the chunks that it gathered
   pub hands_out : Bool
 
-abbrev pub kind_row : (place : ℕ) → (name : List ℕ) → (stock : ℕ) → KindRow
-kind_row place name stock =
-    record { place = place; name = name; stock = stock; hands_out = false }
+abbrev pub usual_row : (place : ℕ) → (name : List ℕ) → (stock : ℕ) → KindFacts
+usual_row place name stock = record {
+  place = place;
+  name = name;
+  stock = stock;
+  works_long = true;
+  passes_on = false;
+  hands_out = false;
+}
 
-abbrev pub row_of : Kind → KindRow
-row_of kind.Csv = kind_row 0 (codes "Csv") 64
-row_of kind.List = kind_row 1 (codes "List") 2
-row_of kind.Numbers = kind_row 2 (codes "Numbers") 2
-row_of kind.Filter = kind_row 3 (codes "Filter") 17
-row_of kind.Expression = kind_row 4 (codes "Expression") 17
-row_of kind.Resize = kind_row 5 (codes "Resize") 4
-row_of kind.PartialAggregate = kind_row 6 (codes "PartialAggregate") 16
-row_of kind.MergeAggregate = kind_row 7 (codes "MergeAggregate") 1
-row_of kind.HashJoin = kind_row 8 (codes "HashJoin") 1
-row_of kind.Sort = kind_row 9 (codes "Sort") 16
-row_of kind.MergeSorted = kind_row 10 (codes "MergeSorted") 1
-row_of kind.Limit = kind_row 11 (codes "Limit") 1
-row_of kind.Collect = record (kind_row 12 (codes "Collect") 1) { hands_out = true }
+abbrev pub row_of : Kind → KindFacts
+row_of kind.Csv = usual_row 0 (codes "Csv") 64
+row_of kind.List = usual_row 1 (codes "List") 2
+row_of kind.Numbers = usual_row 2 (codes "Numbers") 2
+row_of kind.Filter = record (usual_row 3 (codes "Filter") 17) { works_long = false }
+row_of kind.Expression = record (usual_row 4 (codes "Expression") 17) { works_long = false }
+row_of kind.Resize = record (usual_row 5 (codes "Resize") 4) { passes_on = true }
+row_of kind.PartialAggregate = usual_row 6 (codes "PartialAggregate") 16
+row_of kind.MergeAggregate = usual_row 7 (codes "MergeAggregate") 1
+row_of kind.HashJoin = usual_row 8 (codes "HashJoin") 1
+row_of kind.Sort = usual_row 9 (codes "Sort") 16
+row_of kind.MergeSorted = usual_row 10 (codes "MergeSorted") 1
+row_of kind.Limit = usual_row 11 (codes "Limit") 1
+row_of kind.Collect = record (usual_row 12 (codes "Collect") 1) { hands_out = true }
 
 -- all kinds, in their order
 abbrev pub all_kinds : List Kind

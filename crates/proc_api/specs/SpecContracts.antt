@@ -1,6 +1,6 @@
 -- The contract of the kind of each spec, and what of it clauses cite.
 use Rattle.proc_api.specs.Prelude.{ColumnType, Files, List, None, Option, PartSpec, Row, Some, Spec, ℕ, ⊤}
-use Rattle.proc_api.specs.Boxes.{OwnState, PortFlags, WorkState}
+use Rattle.proc_api.specs.Boxes.{FileSeen, OwnState, PortFlags, Reading, WorkState}
 use Rattle.query_model.specs.declared.processor_spec.Spec.TheVariants as spec
 use Rattle.proc_api.specs.Forms.{GrowthForm}
 use Rattle.proc_api.specs.Histories.{Lists}
@@ -27,7 +27,7 @@ no_contract = record {
   types = λ ins types. ⊤;
   most_rows = None;
   idle = λ w. ⊤;
-  made = λ own worked outs wait. ⊤;
+  made = λ x own worked outs wait. ⊤;
   traits = chunk_by_chunk;
 }
 
@@ -71,10 +71,18 @@ most_rows s = (contract_of s).most_rows
 abbrev pub IsWorkOf : Option Spec → WorkState → Type 0
 IsWorkOf s w = (contract_of s).idle w
 
--- What a kind has made of its inputs: its own state, the chunks of each input that it worked, those
--- that left by each output, and the rows that wait.
-abbrev pub HasMade : Spec → OwnState → (worked outs : Lists) → (wait : List Row) → Type 0
-HasMade s own worked outs wait = (contract_of (Some s)).made own worked outs wait
+-- What a kind has made of what it was given to read: its own state, the chunks of each input that
+-- it worked, those that left by each output, and the rows that wait.
+abbrev pub HasMade : Reading → Spec → OwnState → (worked outs : Lists) → (wait : List Row) → Type 0
+HasMade x s own worked outs wait = (contract_of (Some s)).made x own worked outs wait
+
+-- what is known of a kind's file once it has itself finished an output
+abbrev pub IsReadOut : Spec → FileSeen → Type 0
+IsReadOut s f = (contract_of (Some s)).traits.read_out f
+
+-- by what a kind lets its graph grow, where its list names these paths
+abbrev pub spec_growth : Spec → List (List ℕ) → Option GrowthForm
+spec_growth s paths = (contract_of (Some s)).traits.growth paths
 
 -- it has noted the end of input i, before which it makes no rows, or pulls none of another
 abbrev pub NotesEnd : Option Spec → OwnState → ℕ → Type 0

@@ -3,6 +3,7 @@
 #![tactic(auto)]
 
 mod growth;
+mod kind_rows;
 mod notes;
 mod processor;
 mod pulled_rows;
@@ -11,6 +12,7 @@ mod shutting;
 mod status;
 
 pub use growth::{Edge, End, GrowNode, Growth, Who};
+pub use kind_rows::{KINDS, KindRow, kind_row};
 pub use notes::BoxNotes;
 pub use processor::Processor;
 pub use pulled_rows::PulledRows;

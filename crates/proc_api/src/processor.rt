@@ -1,5 +1,5 @@
 ghost use Rattle.std.specs.Prelude.{◌≡◌, ◌≢◌, ◌⊎◌};
-ghost use Rattle.proc_api.specs.Names.{BoxPicture, ChangedByCalls, CountsOn, Expands, Faults, FollowsKept, HasNoReader, IfErr, IfOk, IsLoadRefused, IsRunning, IsSourceKind, IsTrue, KeepsLimits, KeepsUnlessOut, List, Loads, MaySchedule, MayWork, None, NotesView, OnOk, Option, Prepared, PreparesLawfully, PulledOn, SameBox, SameCounts, SamePulled, Schedules, Some, Unloads, Works, false, handed_out_by, ℕ};
+ghost use Rattle.proc_api.specs.Names.{BoxPicture, ChangedByCalls, CountsOn, Expands, Faults, FollowsKept, HasNoReader, IfErr, IfOk, IsLoadRefused, IsRunning, IsSourceKind, IsTrue, KeepsLimits, KeepsUnlessOut, List, Loads, MaySchedule, MayWork, None, NotesView, OnOk, Option, Prepared, PreparesLawfully, PulledOn, SameBox, SameCounts, SamePulled, Schedules, Some, Unloads, Works, false, handed_out_by, row_of, ℕ};
 
 use crate::growth::Growth;
 use crate::status::{LoadRefusal, Status, Wake, WorkFault};
@@ -92,7 +92,8 @@ pub trait Processor: Drop + Send {
         ensures growth { (seen self.new).growth ≡ (seen self.old).growth }
         ensures keeps { IsTrue (seen self.old).lawful
             → KeepsUnlessOut (seen self.old) (seen self.new) }
-        ensures usable { (seen self.old).kind ≢ Kind.Collect → seen self.new ≡ seen self.old };
+        ensures usable { (row_of (seen self.old).kind).hands_out ≡ false
+            → seen self.new ≡ seen self.old };
 
     /// Makes the processor blank, and shuts its reader.
     fn unload(&mut self)

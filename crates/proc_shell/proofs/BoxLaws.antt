@@ -1,11 +1,11 @@
 -- The clauses of the calls of a shell, from what its kernel and its notes do.
-use Rattle.proc_shell.proofs.Imports.{All, All-behind, All-cons, All-nil, AllFit, AllOutputsFinished, AnswerComes, Bool, BoxPicture, Continues, Err, Fails, FaultHolds, FaultInCall, FaultIsDue, Faults, FitsInput, FollowsKept, HasNotedEnd, HasSize, HasSpecPorts, Held, IfErr, IfSome, IsAtMost, IsBadFile, IsBegun, IsKernelOf, IsLoadRefused, IsPulled, IsRunning, IsShelled, IsSourceKind, IsValid, IsWorkOf, Keeps, KeepsLimits, KeepsMeant, KernelState, Kind, List, Lists, LoadedShell, Loads, Made, Makes, MakesTypes, MayExpand, Means, Moves, None, Notes, NotesNoEnd, Nothing, Ok, OnOk, Option, OwnState, Passes, Picture, Prepared, PreparesLawfully, Progresses, ReaderView, Result, RowCount, ShellFails, ShellPrepares, ShellWorks, ShutsShell, Some, Spec, Status, StatusComes, Table, Takes, Unworked, WorkFault, Works, WorksHeld, [], ap, append-nil, ap₂, arith, both-same, changed-by-both, chunk_rows, common_steps, false, file_in, file_of, files_by, gathered_with, growth_in, held_made, held_option, held_unworked, in_count, inl, inr, is_some, is_wanted, kept_input, kept_inputs, kept_output, kept_outputs, kind_of, length, loaded_seen, most_rows, no_lists, no_table, none-pulled, noted_by, option_map, out_count, own_of, pulled_at, reading_of, refl, rows_if_some, rows_pulled, shell_seen, shell_state, source_of, subst, sym, total-nothing, total_rows, true, unworked_at, with_chunk, with_view, work_of, ℕ, ◌++◌, ◌+◌, ◌<◌, ◌==◌, ◌||◌, ◌∙◌, ◌∷◌, ◌≡◌, ◌≢◌, ◌≤◌, ◌⊎◌}
+use Rattle.proc_shell.proofs.Imports.{All, All-behind, All-cons, All-nil, AllFit, AllOutputsFinished, AnswerComes, Bool, BoxPicture, Continues, Err, Fails, FaultHolds, FaultInCall, FaultIsDue, Faults, FitsInput, FollowsKept, HasNotedEnd, HasSize, HasSpecPorts, Held, IfErr, IfSome, IsAtMost, IsBadFile, IsBegun, IsKernelOf, IsLoadRefused, IsPulled, IsRunning, IsShelled, IsSourceKind, IsValid, IsWorkOf, Keeps, KeepsLimits, KeepsMade, KernelState, Kind, List, Lists, LoadedShell, Loads, Made, Makes, MakesTypes, MayExpand, Means, Moves, None, Notes, NotesNoEnd, Nothing, Ok, OnOk, Option, OwnState, Passes, Picture, Prepared, PreparesLawfully, Progresses, ReaderView, Result, RowCount, ShellFails, ShellPrepares, ShellWorks, ShutsShell, Some, Spec, Status, StatusComes, Table, Takes, Unworked, WorkFault, Works, WorksHeld, [], ap, append-nil, ap₂, arith, both-same, changed-by-both, chunk_rows, common_steps, false, file_in, file_of, files_by, gathered_with, growth_in, held_made, held_option, held_unworked, in_count, inl, inr, is_some, is_wanted, kept_input, kept_inputs, kept_output, kept_outputs, kind_of, length, loaded_seen, most_rows, no_lists, no_table, none-pulled, noted_by, option_map, out_count, own_of, pulled_at, reading_of, refl, rows_if_some, rows_pulled, shell_seen, shell_state, source_of, subst, sym, total-nothing, total_rows, true, unworked_at, with_chunk, with_view, work_of, ℕ, ◌++◌, ◌+◌, ◌<◌, ◌==◌, ◌||◌, ◌∙◌, ◌∷◌, ◌≡◌, ◌≢◌, ◌≤◌, ◌⊎◌, HasMade}
 use Rattle.query_model.specs.declared.processor_spec.Kind.TheVariants as kind
 use Rattle.proc_api.specs.declared.status.Status.TheVariants as status
 use Rattle.proc_api.specs.declared.status.WorkFault.TheVariants as fault
 use Rattle.proc_api.specs.declared.status.LoadRefusal.TheVariants as refusal
 use Rattle.proc_shell.proofs.PortMoves.{never-true, shut-law, total-one}
-use Rattle.proc_shell.proofs.KeepLaws.{all-none, cond-none, end-own, had-same, keeps-over, noted-own, pulled-so, shown-one}
+use Rattle.proc_shell.proofs.KeepLaws.{all-none, cond-none, end-own, had-same, keeps-over, made-hidden, made-shown, noted-own, pulled-so}
 use Rattle.proc_shell.proofs.Through.{chunk-here}
 
 -- ---- a chunk that can be pushed
@@ -69,23 +69,22 @@ module _ (k : Kind) (d : Option ReaderView) (count : RowCount) (s : Spec) (p : L
   abbrev F : BoxPicture
   F = loaded_seen k d count p
 
-  fresh-meant : KeepsMeant p.kernel.spec F no_lists no_lists
+  fresh-meant : KeepsMade p.kernel.spec F no_lists no_lists
   unfolding kept_output
   fresh-meant = record {
-    own = p.kernel.own;
-    shows = refl;
     worked = no_lists;
     ins_are = λ i. sym
         (cond-none (i == source_of p.held) (held_unworked p.held) (ap held_unworked x.held));
     rows =
         let y : Means (reading_of F) s p.kernel.own no_lists no_lists [] =
-        subst (λ g. Means (record { files = files_by d; file = file_in p.kernel.spec g }) s
-        p.kernel.own no_lists
-        no_lists []) (sym x.stage) (x.begins.nothing (files_by d)) in
-        subst (λ h. Means (reading_of F) p.kernel.spec p.kernel.own no_lists no_lists
+        subst (λ g. Means
+        (record { files = files_by d; file = file_in p.kernel.spec g; unworked = [] }) s
+        p.kernel.own no_lists no_lists []) (sym x.stage) (x.begins.nothing (files_by d)) in
+        made-shown p.kernel.spec (reading_of F) p.kernel.own no_lists no_lists _
+        (subst (λ h. Means (reading_of F) p.kernel.spec p.kernel.own no_lists no_lists
         (chunk_rows (held_made h))) (sym x.held)
         (subst (λ z. Means (reading_of F) z p.kernel.own no_lists no_lists []) (sym x.begins.spec)
-        y);
+        y));
     over = λ o fin. let f : false ≡ true = rw x.notes at fin in absurd (cc);
     read = λ o fin. let f : false ≡ true = rw x.notes at fin in absurd (cc);
   }
@@ -97,8 +96,7 @@ module _ (k : Kind) (d : Option ReaderView) (count : RowCount) (s : Spec) (p : L
     opens = λ e. let f : None ≡ Some (Prepared status.ExpandPipeline) = rw x.notes at e in
         absurd (cc);
     idle = x.uses;
-    rows = λ f. x.shelled.into F no_lists no_lists (refl, rw x.notes tt) x.uses
-        (rw x.held (All-nil (HasSize (Some p.kernel.spec)))) fresh-meant;
+    rows = λ f. fresh-meant;
     types = λ o. All-nil (λ (t : Table). MakesTypes (Some p.kernel.spec) no_lists t.types);
     made_types = rw x.held
         (All-nil (λ (t : Table). MakesTypes (Some p.kernel.spec) no_lists t.types));
@@ -202,7 +200,7 @@ module _ (k : Kind) (d : Option ReaderView) (p : LoadedShell) (b : OwnState) (j 
         limits = limits-stay k d p (shell_state (record p.kernel { own = b }) j notes) n m w st
             p.notes.fits refl x.notes run.faultless;
         fits = λ fit. ap (λ z. z.fits) x.notes ∙ fit.fits;
-        keeps = keeps-over k d p.kernel b p.held j p.notes notes n m v w st so x few ports run f;
+        keeps = keeps-over k d p.kernel b p.held j p.notes notes n m v w st so x few ports f;
         ends = λ some each.
             let all : AllOutputsFinished x.view = λ o lt.
             ap₂ (λ a b. a || b) (x.pushes.finished o) (x.pushes.closed o)
@@ -279,23 +277,22 @@ module _ (k : Kind) (d : Option ReaderView) (count : RowCount) (x : KernelState)
   none-left i =
       cond-none (i == source_of (held_option o)) (held_unworked (held_option o)) (held-worked o)
 
-  meant-before : (h : Held) (ins outs : Lists) (t : KeepsMeant s (P h) ins outs)
+  meant-before : (h : Held) (ins outs : Lists) (t : KeepsMade s (P h) ins outs)
       → Means (reading_of (P h)) s x.own t.worked outs (chunk_rows (held_made h))
   meant-before h ins outs t =
-      subst (λ z. Means (reading_of (P h)) s z t.worked outs (chunk_rows (held_made h)))
-      (shown-one s t.own x.own (held_unworked h) (sym t.shows)) t.rows
+      made-hidden s (reading_of (P h)) x.own t.worked outs (chunk_rows (held_made h)) t.rows
 
   meant-after : (worked outs : Lists) → Means (reading_of Q) s b worked outs (rows_if_some o)
-      → Means (reading_of Q) s b worked outs (chunk_rows (held_made (held_option o)))
-  meant-after worked outs h = subst (Means (reading_of Q) s b worked outs) (sym (held-rows o)) h
+      → HasMade (reading_of Q) s (own_of Q.work) worked outs (chunk_rows Q.work.made)
+  meant-after worked outs h =
+      made-shown s (reading_of Q) b worked outs (chunk_rows Q.work.made)
+      (subst (Means (reading_of Q) s b worked outs) (sym (held-rows o)) h)
 
   -- nothing was held, and rows were made
-  makes-meant : Makes s x.own b o → (ins outs : Lists) → KeepsMeant s (P Nothing) ins outs
-      → KeepsMeant s Q ins outs
+  makes-meant : Makes s x.own b o → (ins outs : Lists) → KeepsMade s (P Nothing) ins outs
+      → KeepsMade s Q ins outs
   unfolding kept_output
   makes-meant y ins outs t = record {
-    own = b;
-    shows = refl;
     worked = t.worked;
     ins_are = λ i. t.ins_are i ∙ ap (λ l. t.worked i ++ l)
         (cond-none (i == 0) [] refl ∙ sym (none-left i));
@@ -317,14 +314,12 @@ module _ (k : Kind) (d : Option ReaderView) (count : RowCount) (x : KernelState)
 
   -- the chunk was worked, which was the last of its input, and fits where all that were pulled fit
   takes-meant : (i : ℕ) (c : Table) → Takes s x.own i c b o → (ins outs : Lists)
-      → AllFit (Some s) ins → KeepsMeant s (P (Unworked i c)) ins outs → KeepsMeant s Q ins outs
+      → AllFit (Some s) ins → KeepsMade s (P (Unworked i c)) ins outs → KeepsMade s Q ins outs
   unfolding kept_output
   takes-meant i c y ins outs fit t =
       let F : Table → Type 0 = λ (z : Table). FitsInput (Some s) i z.types in
       let last = subst (All F) (t.ins_are i ∙ chunk-here i c t.worked) (fit i) in
       record {
-        own = b;
-        shows = refl;
         worked = with_chunk i c t.worked;
         ins_are = λ j. t.ins_are j ∙ sym (append-nil (with_chunk i c t.worked j))
             ∙ ap (λ l. with_chunk i c t.worked j ++ l) (sym (none-left j));
@@ -340,7 +335,7 @@ module _ (k : Kind) (d : Option ReaderView) (count : RowCount) (x : KernelState)
   makes-on y valid = grind (arith, common_steps, held-rows, held-worked)
 
   works-held : (h : Held) → ((ins outs : Lists) → AllFit (Some s) ins
-      → KeepsMeant s (P h) ins outs → KeepsMeant s Q ins outs)
+      → KeepsMade s (P h) ins outs → KeepsMade s Q ins outs)
       → IfSome o (λ (t : Table). IsAtMost (most_rows (Some s)) (length t.rows))
       → ((ins : Lists) → All (λ (t : Table). IsPulled ins t.types) (held_unworked h)
       → IfSome o (λ (t : Table). MakesTypes (Some s) ins t.types))
@@ -364,10 +359,7 @@ module _ (k : Kind) (d : Option ReaderView) (count : RowCount) (x : KernelState)
           ports = had-same n.view (P h) Q refl refl kept.ports;
           opens = kept.opens;
           idle = so.uses;
-          rows = λ fit. so.shelled.into Q ins outs
-              (refl, had-same n.view (P h) Q refl refl kept.ports) so.uses sized (meant ins outs fit
-              (so.shelled.from (P h) ins outs (refl, kept.ports)
-              kept.idle run.not_handed_out (kept.rows fit)));
+          rows = λ fit. meant ins outs fit (kept.rows fit);
           types = kept.types;
           made_types = λ i z lt. (typed i z lt).1;
           sizes = kept.sizes;

@@ -8,9 +8,9 @@ pub use Rattle.proc_api.proofs.MadeLaws.{more-rows, no-rows}
 pub use Rattle.proc_api.proofs.SeveralCalls.{empty-of, goes-on, lists-pulled, lists-pushed, rows-both}
 pub use Rattle.proc_api.proofs.ShutPorts.{both-same, by-place}
 pub use Rattle.proc_api.proofs.Turns.{close-turns, need-turns, needing-leaves, needing-needs, pull-turns, push-turns}
-pub use Rattle.proc_api.specs.Names.{AllInputsEnded, AllOutputsClosed, AreCounts, AreLastPulled, AreOpen, AreResized, FaultHolds, FileSeen, FaultInCall, FaultIsDue, Faults, GrowthForm, HadPorts, HasMade, HasNotedEnd, HasRoom, HasSize, IsAtMost, IsBadFile, IsFirstAlone, IsLoadRefused, IsOver, IsReadUp, IsRunning, IsShut, IsSourceKind, IsWanting, Keeps, KeepsCollect, KeepsLimits, KeepsList, KeepsMade, KeepsOver, KeepsPart, KeepsRows, KeepsSame, Loads, MayBeReady, MayExpand, NeedsRoom, Notes, NotesView, OfPart, PreparesLawfully, Progresses, RowCount, StatusComes, StatusHolds, StaysFit, WorkState, Works, file_of, idle_own, is_ended, list_growth, most_rows, own_of, unworked_at}
+pub use Rattle.proc_api.specs.Names.{AllInputsEnded, AllOutputsClosed, AreCounts, AreOpen, AreResized, FaultHolds, FileSeen, FaultInCall, FaultIsDue, Faults, GrowthForm, HadPorts, HasMade, HasNotedEnd, HasRoom, HasSize, IsAtMost, IsBadFile, IsFirstAlone, IsLoadRefused, IsOver, IsReadUp, IsRunning, IsShut, IsSourceKind, IsWanting, Keeps, KeepsLimits, KeepsMade, KeepsOver, KeepsRows, KeepsSame, Loads, MayBeReady, MayExpand, NeedsRoom, Notes, NotesView, OfPart, PreparesLawfully, Progresses, Reading, RowCount, StatusComes, StatusHolds, StaysFit, WorkState, Works, file_of, idle_own, is_ended, list_growth, most_rows, own_of, reading_of, row_of, unworked_at}
 pub use Rattle.proc_api.specs.declared.status.Status.TheVariants.{Finished, NeedData, Ready}
-pub use Rattle.proc_shell.specs.Kernels.{AreRead, HasEnough, HasSpecView, KeepsMeant, Leaves, LetsPush, Means, NotesNoEnd, Reading, Shows, SourceStage, gathered_own, gathered_with, gathering, part_kernel, reading_of, rows_if_some, unread, with_chunk}
+pub use Rattle.proc_shell.specs.Kernels.{HasEnough, Leaves, LetsPush, Means, NotesNoEnd, SourceStage, gathered_own, gathered_with, gathering, part_kernel, rows_if_some, unread, with_chunk}
 pub use Rattle.std.specs.Prelude.{◌↔◌}
 pub use Rattle.proc_shell.specs.Names.{AllOutputsFinished, AreMoved, ArePortsOf, AreWantedEmpty, AreWantedOver, Begins, ChangesInput, ChangesInputs, Continues, CountsRows, Err, Fails, HasNoRoom, HasOpen, HasSpecPorts, IfErr, IfSome, IsBegun, IsFreeOutput, IsKernelOf, IsOutOfRoom, IsReadOut, IsShelled, IsTrue, IsValid, IsWanted, IsWantedFull, IsWorkOf, KernelState, Makes, MayMake, Moves, Nothing, OfferComes, Offers, Ok, OnOk, Prepared, Pushes, Reads, ShellFails, ShellPrepares, ShellWorks, Takes, Turns, WantsMore, WorksHeld, asked, file_in, growth_in, held_made, held_option, held_unworked, is_wanted, kind_of, may_hold, option_map, shell_state, shut_open, unasked, work_of}
 pub use Rattle.proc_shell.specs.Prelude.{BadPlace, Held, Made, Offer, PartSpec, Result, Status, TurnsInput, Unworked, Wake, WorkFault, grown_inputs, is_in_finished, needing}

@@ -1,5 +1,5 @@
 -- A shell keeps the contract of its kernel's kind over a prepare.
-use Rattle.proc_shell.proofs.Imports.{All, All-append, All-behind, All-weaker, AllFit, AllOutputsClosed, AnswerComes, AreOpen, ArePortsOf, Bool, BoxPicture, Continues, CountsRows, EndsNow, Flags, FollowsKept, GrowthForm, HadPorts, HasEnough, HasNotedEnd, HasReadEnough, HasSize, HasSpecPorts, HasSpecView, Held, IfSome, InputFollows, IsOver, IsPulled, IsReadUp, IsRunning, IsShelled, Keeps, KeepsMeant, KeepsOver, KernelState, Kind, List, Lists, MakesTypes, MayBeInput, Means, Moves, None, Notes, NotesEnd, Nothing, Option, OwnState, Passes, Picture, PortFlags, Prepared, PullsOne, Pushes, ReaderView, RowCount, Some, Spec, StandStill, Status, StaysFit, Table, [], all_port_flags, ap, append-nil, append_assoc, append_cancel_right, ap₂, arith, both_ways, by-place, cases_eq, cases_lt, chunk_rows, common_steps, cond, cond_both, counted-more, enough-more, eq-eqb, false, false_from_ne_true, fits-front, front-all, gathered_with, get_or, growth_in, held_made, held_unworked, in_count, inl, input_at, inr, is_ended, is_in_finished, is_out_finished, kept_input, kept_input-of, kept_input-past, kept_inputs, kept_inputs-of, kept_output, kept_output-of, kept_output-past, kept_outputs, kept_outputs-of, kept_ports, length, length-map, loaded_seen, makes-more, may-be-input, ne_eqb, never-enough, no_flags, not-true, or_cases, out_count, output_at, own_of, pulled-last, pulled-more, pulled_at, pushed_at, raised, reading_of, refl, rows_pulled, shell_state, source_of, subst, sym, taken_out, total_rows, true, unworked_at, with_pulled, with_pushed, ℕ, ◌++◌, ◌<◌, ◌==◌, ◌||◌, ◌∙◌, ◌∷◌, ◌≡◌, ◌≢◌, ◌≤◌, ◌⊎◌}
+use Rattle.proc_shell.proofs.Imports.{All, All-append, All-behind, All-weaker, AllFit, AllOutputsClosed, AnswerComes, AreOpen, ArePortsOf, Bool, BoxPicture, Continues, CountsRows, EndsNow, Flags, FollowsKept, GrowthForm, HadPorts, HasEnough, HasNotedEnd, HasReadEnough, HasSize, HasSpecPorts, Held, InputFollows, IsOver, IsPulled, IsReadUp, Keeps, KeepsMade, KeepsOver, KernelState, Kind, List, Lists, MakesTypes, MayBeInput, Means, Moves, None, Notes, NotesEnd, Nothing, Option, OwnState, Passes, Picture, PortFlags, Prepared, PullsOne, Pushes, ReaderView, RowCount, Some, Spec, StandStill, Status, StaysFit, Table, [], all_port_flags, ap, append-nil, append_assoc, append_cancel_right, ap₂, arith, both_ways, by-place, cases_eq, cases_lt, chunk_rows, common_steps, cond, cond_both, counted-more, enough-more, eq-eqb, false, false_from_ne_true, fits-front, front-all, gathered_with, get_or, growth_in, held_made, held_unworked, in_count, inl, input_at, inr, is_ended, is_in_finished, is_out_finished, kept_input, kept_input-of, kept_input-past, kept_inputs, kept_inputs-of, kept_output, kept_output-of, kept_output-past, kept_outputs, kept_outputs-of, kept_ports, length, loaded_seen, makes-more, may-be-input, ne_eqb, never-enough, not-true, or_cases, out_count, output_at, own_of, pulled-last, pulled-more, pulled_at, pushed_at, raised, reading_of, refl, rows_pulled, shell_state, source_of, subst, sym, taken_out, total_rows, true, unworked_at, with_pulled, with_pushed, ℕ, ◌++◌, ◌<◌, ◌==◌, ◌||◌, ◌∙◌, ◌∷◌, ◌≡◌, ◌≢◌, ◌≤◌, ◌⊎◌, HasMade, Reading, Row}
 use Rattle.query_model.specs.declared.processor_spec.Spec.TheVariants as spec
 use Rattle.proc_api.specs.declared.status.Status.TheVariants as status
 use Rattle.proc_shell.proofs.PortMoves.{all-or, both-none, kept-count, never-true, outs-count}
@@ -55,16 +55,20 @@ pub end-own : (s : Spec) (a : OwnState) (l m : List Table)
 end-own spec.Collect a l m n = n
 end-own s a l m n = n
 
--- a box shows one state of its kernel
-pub shown-one : (s : Spec) (a b : OwnState) (u : List Table) → record a {
-  gathered =
-      gathered_with s a.gathered u;
-} ≡ record b { gathered = gathered_with s b.gathered u } → a ≡ b
-shown-one spec.Collect a b u e =
-    let same : a.gathered ≡ b.gathered =
-    append_cancel_right a.gathered b.gathered u (ap (λ x. x.gathered) e) in
-    λ i. record (e i) { gathered = same i }
-shown-one s a b u e = e
+-- what a kernel has made, as its box shows it with the chunk that isn't worked yet
+pub made-shown : (s : Spec) (x : Reading) (a : OwnState) (worked outs : Lists) (wait : List Row)
+    → Means x s a worked outs wait
+    → HasMade x s (record a { gathered = gathered_with s a.gathered x.unworked }) worked outs wait
+made-shown spec.Collect x a worked outs wait h =
+    ap (λ l. l ++ x.unworked) (h ∙ append-nil (worked 0))
+made-shown s x a worked outs wait h = h
+
+pub made-hidden : (s : Spec) (x : Reading) (a : OwnState) (worked outs : Lists) (wait : List Row)
+    → HasMade x s (record a { gathered = gathered_with s a.gathered x.unworked }) worked outs wait
+    → Means x s a worked outs wait
+made-hidden spec.Collect x a worked outs wait h =
+    append_cancel_right a.gathered (worked 0) x.unworked h ∙ sym (append-nil (worked 0))
+made-hidden s x a worked outs wait h = h
 
 -- the count of a prepare, which pulls nothing where it pushes
 pub pulled-so : (h m : Held) (v u w : Picture) (old new : RowCount) → Pushes h m v u
@@ -81,7 +85,6 @@ module _ (kind : Kind) (d : Option ReaderView) (kernel : KernelState) (b : OwnSt
     (g : Passes (shell_state kernel h first) v old (shell_state (record kernel { own = b }) k last)
     w new st)
     (few : out_count v ≤ 16) (ports : HasSpecPorts kernel v)
-    (run : IsRunning (loaded_seen kind d old (shell_state kernel h first)))
     (follows : FollowsKept (loaded_seen kind d old (shell_state kernel h first)) v)
     (fit : StaysFit (loaded_seen kind d old (shell_state kernel h first)) v) where
   abbrev u : Picture
@@ -214,9 +217,6 @@ module _ (kind : Kind) (d : Option ReaderView) (kernel : KernelState) (b : OwnSt
         ]
       ]
 
-  own-is : (ins outs : Lists) (t : KeepsMeant s p ins outs) → t.own ≡ a
-  own-is ins outs t = shown-one s t.own a (held_unworked h) (sym t.shows)
-
   -- the chunks that are unworked are those that were, and what was pulled
   unworked-is : (i : ℕ) → unworked_at q.work i ≡ unworked_at p.work i ++ pulled_at v w i
   unworked-is i =
@@ -244,7 +244,7 @@ module _ (kind : Kind) (d : Option ReaderView) (kernel : KernelState) (b : OwnSt
   ends-after n = end-own s b b.gathered (gathered_with s b.gathered (held_unworked k)) n
 
   -- what is over stays over
-  over-before : (ins outs : Lists) → Keeps p ins outs → KeepsMeant s p ins outs → (o : ℕ)
+  over-before : (ins outs : Lists) → Keeps p ins outs → KeepsMade s p ins outs → (o : ℕ)
       → o < out_count v → (output_at u o).fin_out ≡ true → IsOver s q.work
   over-before ins outs kept t o lt fin =
       let was = t.over o (kept-out o lt fin) in
@@ -303,20 +303,19 @@ module _ (kind : Kind) (d : Option ReaderView) (kernel : KernelState) (b : OwnSt
       (λ j ne. ap (λ l. outs j ++ l) (pushed-others j ne) ∙ append-nil (outs j))
       (subst (λ l. Means (reading_of p) s a worked outs (chunk_rows l)) made-are t))
 
-  meant-before : (ins outs : Lists) (t : KeepsMeant s p ins outs)
+  meant-before : (ins outs : Lists) (t : KeepsMade s p ins outs)
       → Means (reading_of p) s a t.worked outs (chunk_rows p.work.made)
-  meant-before ins outs t = subst (λ z. Means (reading_of p) s z t.worked outs
-      (chunk_rows p.work.made)) (own-is ins outs t) t.rows
+  meant-before ins outs t =
+      made-hidden s (reading_of p) a t.worked outs (chunk_rows p.work.made) t.rows
 
-  pub through : (ins outs : Lists) → Keeps p ins outs → KeepsMeant s p ins outs
-      → KeepsMeant s q (with_pulled v w ins) (with_pushed v w outs)
+  pub through : (ins outs : Lists) → Keeps p ins outs → KeepsMade s p ins outs
+      → KeepsMade s q (with_pulled v w ins) (with_pushed v w outs)
   through ins outs kept t = record {
-    own = b;
-    shows = refl;
     worked = t.worked;
     ins_are = λ i. ap (λ l. l ++ pulled_at v w i) (t.ins_are i) ∙ append_assoc (t.worked i)
         (unworked_at p.work i) (pulled_at v w i) ∙ ap (λ l. t.worked i ++ l) (sym (unworked-is i));
-    rows = made-rows outs t.worked (meant-before ins outs t);
+    rows = made-shown s (reading_of q) b t.worked (with_pushed v w outs) (chunk_rows (held_made k))
+        (made-rows outs t.worked (meant-before ins outs t));
     over = λ o fin. elim (finishes-now o fin) [
       | inl before ↦ over-before ins outs kept t o before.0 before.1
       | inr now ↦ record {
@@ -337,8 +336,7 @@ module _ (kind : Kind) (d : Option ReaderView) (kernel : KernelState) (b : OwnSt
       → HasReadEnough (Some s) (with_pulled v w ins)
   now-enough ins outs kept e enough =
       let fit : AllFit (Some s) ins = λ i j d lt. enough.any i (get_or (ins i) j d).types in
-      let t : KeepsMeant s p ins outs = so.shelled.from p ins outs (refl, kept.ports) kept.idle
-      run.not_handed_out (kept.rows fit) in
+      let t : KeepsMade s p ins outs = kept.rows fit in
       let none : held_unworked h ≡ [] = sym g.pushes.unworked ∙ ap held_unworked e in
       let all : (i : ℕ) → ins i ≡ t.worked i = λ i. t.ins_are i
       ∙ ap (λ l. t.worked i ++ l) (cond-none (i == source_of h) (held_unworked h) none)
@@ -516,10 +514,7 @@ module _ (kind : Kind) (d : Option ReaderView) (kernel : KernelState) (b : OwnSt
             (opens-now (record kernel { own = b }) k w st mv.comes
             (sym (ap (λ z. z.answer) g.notes) ∙ e));
         idle = so.uses;
-        rows = λ f. so.shelled.into q more (with_pushed v w outs) (refl, had) so.uses
-            (made-all (HasSize (Some s)) kept.made_sizes)
-            (through ins outs kept (so.shelled.from p ins outs (refl, kept.ports) kept.idle
-            run.not_handed_out (kept.rows (fits-front (Some s) v w ins f))));
+        rows = λ f. through ins outs kept (kept.rows (fits-front (Some s) v w ins f));
         types = λ o. All-append Q (outs o) (pushed_at v w o)
             (All-weaker P Q still (outs o) (kept.types o))
             (All-weaker P Q still (pushed_at v w o) (pushed-all P kept.made_types o));

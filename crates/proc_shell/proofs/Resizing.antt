@@ -1,6 +1,5 @@
 -- What passes rows on as they are, from any input to any output.
-use Rattle.proc_shell.proofs.Imports.{AreResized, Begins, IsFirstAlone, IsPermutation-append_left, IsPermutation-refl, IsPermutation-same, IsPermutation-sym, IsPermutation-trans, KernelState, LetsPush, List, Lists, Means, OwnState, Row, Some, Spec, Table, Takes, WorkState, [], all_rows, ap, append-nil, append_assoc, arith, by-place, cases_eq, chunk_rows, idle_own, inl, inr, kind_of, more-rows, no-rows, no_lists, refl, rows-append, subst, sym, unread, with_chunk, ℕ, ◌++◌, ◌<◌, ◌∙◌, ◌∷◌, ◌≡◌, ◌≢◌}
-use Rattle.query_model.specs.declared.processor_spec.Kind.TheVariants as kind
+use Rattle.proc_shell.proofs.Imports.{AreResized, Begins, IsFirstAlone, IsPermutation-append_left, IsPermutation-refl, IsPermutation-same, IsPermutation-sym, IsPermutation-trans, KernelState, LetsPush, List, Lists, Means, OwnState, Row, Some, Spec, Table, Takes, WorkState, [], all_rows, ap, append-nil, append_assoc, arith, by-place, cases_eq, chunk_rows, idle_own, inl, inr, kind_of, more-rows, no-rows, no_lists, refl, rows-append, subst, sym, unread, with_chunk, ℕ, ◌++◌, ◌<◌, ◌∙◌, ◌∷◌, ◌≡◌, ◌≢◌, row_of, true}
 use Rattle.query_model.specs.declared.processor_spec.Spec.TheVariants as spec
 use Rattle.proc_shell.proofs.PortMoves.{both-none}
 use Rattle.proc_shell.proofs.SeveralTurns.{PassesChunks}
@@ -88,10 +87,11 @@ takes-resized own i t lt = record {
 }
 
 -- it passes chunks on as they are
-pub resize-passes : (x : KernelState) → kind_of x.spec ≡ kind.Resize → PassesChunks x
+pub resize-passes : (x : KernelState) → (row_of (kind_of x.spec)).passes_on ≡ true
+    → PassesChunks x
 resize-passes x e = go x.spec e
   where
-    go : (s : Spec) → kind_of s ≡ kind.Resize → PassesChunks (record x { spec = s })
+    go : (s : Spec) → (row_of (kind_of s)).passes_on ≡ true → PassesChunks (record x { spec = s })
     go spec.Resize e = record {
       takes = λ i t lt. takes-resized x.own i t lt;
       waits = λ i c made h.

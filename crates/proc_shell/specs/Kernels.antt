@@ -1,7 +1,7 @@
 -- What the code of a kind promises, over plain data: its own state, a chunk, and the rows that it
 -- makes.
 use Rattle.std.specs.Prelude.{◌++◌, ◌<◌, ◌==◌, ◌∷◌, ◌≡◌, ◌≢◌, ◌⊎◌}
-use Rattle.proc_shell.specs.Prelude.{All, AreCounts, ArePartBytes, ArePortsOf, BadPlace, Bool, BoxPicture, ColumnType, FileSeen, Files, FitsInput, GrowthForm, HadPorts, HasMade, HasNotedEnd, HasReadEnough, HasSize, IfSome, IsAtMost, IsBadFile, IsOver, IsPulled, IsSome, IsSourceKind, IsWanting, IsWorkOf, KeepsRows, Kind, KnowsList, List, Lists, MakesTypes, MayExpand, None, NotesEnd, Offer, Option, OwnState, PartSpec, Picture, PortFlags, Row, Some, Spec, StandStill, Table, WorkFault, WorkState, [], bad_place, chunk_rows, cond, false, file_of, good_rows, grown_inputs, idle_own, idle_work, in_count, input_at, is_in_finished, kept_output, length, list_growth, most_rows, no_lists, out_count, own_of, part_records, true, unworked_at, ℕ}
+use Rattle.proc_shell.specs.Prelude.{AreCounts, ArePortsOf, BadPlace, Bool, ColumnType, FileSeen, Files, FitsInput, GrowthForm, HasMade, HasNotedEnd, HasReadEnough, IfSome, IsAtMost, IsBadFile, IsPulled, IsSourceKind, IsWanting, Kind, List, Lists, MakesTypes, MayExpand, None, NotesEnd, Offer, Option, OwnState, PartSpec, Picture, PortFlags, Row, Some, Spec, StandStill, Table, WorkFault, WorkState, [], chunk_rows, cond, false, idle_own, idle_work, in_count, input_at, is_in_finished, length, most_rows, no_lists, out_count, true, ℕ, Reading, IsReadOut, spec_growth}
 use Rattle.query_model.specs.declared.processor_spec.Kind.TheVariants as kind
 use Rattle.query_model.specs.declared.processor_spec.Spec.TheVariants as spec
 use Rattle.proc_api.specs.declared.status.WorkFault.TheVariants as fault
@@ -41,11 +41,7 @@ first_stage = record {
   handed_out = false;
 }
 
--- by what it let its graph grow, which a list alone does
-abbrev pub spec_growth : Spec → List (List ℕ) → Option GrowthForm
-spec_growth (spec.List list) paths = Some (list_growth list paths)
-spec_growth s paths = None
-
+-- by what it let its graph grow
 abbrev pub growth_in : Spec → SourceStage → Option GrowthForm
 growth_in s g = cond g.grown (spec_growth s g.paths) None
 
@@ -123,51 +119,15 @@ work_of x source unworked made = record idle_work {
   bad_line = x.stage.bad_line;
 }
 
--- the kernel's state is shown so
-abbrev pub Shows : Spec → OwnState → WorkState → Type 0
-Shows s own w = own_of w ≡ record own { gathered = gathered_with s own.gathered w.unworked }
-
 -- ---- what a kind means
 
--- the files that a reader tells, and what is known of the one that it reads
-pub record Reading : Type 0 where
-  pub files : Option Files
-  pub file : FileSeen
-
-abbrev pub reading_of : BoxPicture → Reading
-reading_of p = record { files = p.files; file = file_of p }
-
 abbrev pub unread : Option Files → Reading
-unread files = record { files = files; file = file_in spec.Resize first_stage }
+unread files =
+    record { files = files; file = file_in spec.Resize first_stage; unworked = [] }
 
--- the rows and those not yet made are the good rows of the part, and its bad place is known
-pub record ArePartRows (x : Reading) (part : PartSpec) (unmade rows : List Row) : Type 0 where
-  pub bytes : List ℕ
-  pub are : ArePartBytes x.files part.path bytes
-  pub rows_are : rows ++ unmade ≡ good_rows part.types (part_records part.header bytes)
-  pub bad : x.file.bad ≡ bad_place 1 part.types (part_records part.header bytes)
-
--- until a file is fetched whole no row is made of it
-pub record AreRead (x : Reading) (part : PartSpec) (unmade rows : List Row) : Type 0 where
-  pub before : x.file.fetched ≡ false → (rows ≡ []) × (unmade ≡ []) × (x.file.bad ≡ None)
-  pub fetched : x.file.fetched ≡ true → ArePartRows x part unmade rows
-
--- What a kind has made of its inputs, or of what it reads. What a collector gathered are the chunks
--- that it worked.
+-- What a kind's kernel has made, whatever its shell holds for it.
 abbrev pub Means : Reading → Spec → OwnState → (worked outs : Lists) → (wait : List Row) → Type 0
-Means x (spec.Csv part) own worked outs wait =
-    AreRead x part own.unmade (chunk_rows (outs 0) ++ wait)
-Means x (spec.List list) own worked outs wait =
-    KnowsList list x.files x.file × HasMade (spec.List list) own worked outs wait
-Means x spec.Collect own worked outs wait = own.gathered ≡ worked 0
-Means x s own worked outs wait = HasMade s own worked outs wait
-
--- a part or list is fetched whole, and valid, and each path of the list has its input
-abbrev pub IsReadOut : Spec → FileSeen → Type 0
-IsReadOut (spec.Csv part) f = (f.fetched ≡ true) × (f.bad ≡ None)
-IsReadOut (spec.List list) f =
-    (f.fetched ≡ true) × (f.bad_line ≡ None) × (grown_inputs f.growth ≡ length f.paths)
-IsReadOut s f = Unit {0}
+Means x s own worked outs wait = HasMade (record x { unworked = [] }) s own worked outs wait
 
 -- ---- a kernel's calls
 
@@ -281,22 +241,7 @@ LetsPush s =
     → Means x s own worked outs (chunk_rows (pushed ++ rest))
     → Means x s own worked more (chunk_rows rest)
 
--- the kept view, if any, had the ports of the spec, before or after its growth
-abbrev pub HasSpecView : Spec → BoxPicture → Type 0
-HasSpecView s p = (p.spec ≡ Some s) × HadPorts p.notes.view p
-
--- What a box keeps of its kind: the first chunks of each input are worked, and of them its kernel
--- has made what its kind says.
-pub record KeepsMeant (s : Spec) (p : BoxPicture) (ins outs : Lists) : Type 0 where
-  pub own : OwnState
-  pub shows : Shows s own p.work
-  pub worked : Lists
-  pub ins_are : (i : ℕ) → ins i ≡ worked i ++ unworked_at p.work i
-  pub rows : Means (reading_of p) s own worked outs (chunk_rows p.work.made)
-  pub over : (o : ℕ) → (kept_output p o).fin_out ≡ true → IsOver s p.work
-  pub read : (o : ℕ) → (kept_output p o).fin_out ≡ true → IsReadOut s (file_of p)
-
--- a kind of processors whose box keeps what its kernel has made
+-- what a shell must know of the ports of a kind, and that what waits may leave by an output
 pub record IsShelled (s : Spec) : Type 0 where
   pub still : (growth : Option GrowthForm) (kept : PortFlags) (inputs outputs : ℕ)
       → ArePortsOf (Some s) growth (length kept.inputs) (length kept.outputs)
@@ -305,7 +250,3 @@ pub record IsShelled (s : Spec) : Type 0 where
   pub enough_one : (ins : Lists) → HasReadEnough (Some s) ins → (growth : Option GrowthForm)
       (inputs outputs : ℕ) → ArePortsOf (Some s) growth inputs outputs → outputs ≡ 1
   pub lets_push : LetsPush s
-  pub into : (p : BoxPicture) (ins outs : Lists) → HasSpecView s p → IsWorkOf (Some s) p.work
-      → All (HasSize (Some s)) p.work.made → KeepsMeant s p ins outs → KeepsRows (Some s) p ins outs
-  pub from : (p : BoxPicture) (ins outs : Lists) → HasSpecView s p → IsWorkOf (Some s) p.work
-      → p.work.handed_out ≡ false → KeepsRows (Some s) p ins outs → KeepsMeant s p ins outs

@@ -1,7 +1,6 @@
 -- What is seen of a shell, and what its calls do.
-use Rattle.std.specs.Prelude.{◌+◌, ◌≡◌, ◌≢◌, ◌≤◌, ◌⊎◌}
-use Rattle.proc_shell.specs.Prelude.{ArePortsOf, Bool, BoxPicture, ChangedByCalls, Err, Files, FollowsKept, GrowthForm, Held, IsRunning, IsShut, IsWorkOf, Kind, List, Made, None, Notes, Nothing, Ok, Option, OwnState, Picture, Prepared, PreparesLawfully, Result, RowCount, SameChunks, Scheduled, Some, Spec, Status, Table, Unworked, Wake, WorkFault, WorkState, all_port_flags, false, handed_out_by, idle_work, in_count, kind_of, no_notes, out_count, rows_pulled, true, ℕ}
-use Rattle.query_model.specs.declared.processor_spec.Kind.TheVariants as kind
+use Rattle.std.specs.Prelude.{◌+◌, ◌≡◌, ◌≤◌, ◌⊎◌}
+use Rattle.proc_shell.specs.Prelude.{ArePortsOf, Bool, BoxPicture, ChangedByCalls, Err, Files, FollowsKept, GrowthForm, Held, IsRunning, IsShut, IsWorkOf, Kind, List, Made, None, Notes, Nothing, Ok, Option, OwnState, Picture, Prepared, PreparesLawfully, Result, RowCount, SameChunks, Scheduled, Some, Spec, Status, Table, Unworked, Wake, WorkFault, WorkState, all_port_flags, false, handed_out_by, idle_work, in_count, kind_of, no_notes, out_count, row_of, rows_pulled, true, ℕ}
 use Rattle.proc_api.specs.declared.status.Status.TheVariants as status
 use Rattle.proc_shell.specs.Steps.{CountsRows, held_made, held_option, held_unworked, source_of}
 use Rattle.proc_shell.specs.Kernels.{Begins, IsKernelOf, IsLeftOf, IsShelled, IsValid, KernelState, Makes, Takes, first_stage, growth_in, work_of}
@@ -84,7 +83,6 @@ pub record IsBegun (s : Spec) (p : LoadedShell) : Type 0 where
   pub stage : p.kernel.stage ≡ first_stage
   pub held : p.held ≡ Nothing
   pub notes : p.notes ≡ no_notes
-  pub shelled : IsShelled p.kernel.spec
   pub uses : IsWorkOf (Some p.kernel.spec) (shell_work p)
 
 -- the notes of a view that a prepare leaves, and of its answer
@@ -184,9 +182,10 @@ pub record ShellFails (f : WorkFault) (p q : LoadedShell) : Type 0 where
   pub notes : q.notes ≡ record p.notes { fault = Some f }
 
 -- chunks are handed out, those that a collector gathered
-pub record ShellGives (k : Kind) (p : LoadedShell) (given : List Table) (q : LoadedShell) : Type
-    0 where
+pub record ShellGives (k : Kind) (p : LoadedShell) (given : List Table) (q : LoadedShell)
+    : Type 0 where
   pub rows : given ≡ handed_out_by k (shell_work p)
   pub spec : q.kernel.spec ≡ p.kernel.spec
   pub notes : q.notes ≡ p.notes
-  pub out : (k ≡ kind.Collect) × (q.kernel.stage.handed_out ≡ true) ⊎ (k ≢ kind.Collect) × (q ≡ p)
+  pub out : ((row_of k).hands_out ≡ true) × (q.kernel.stage.handed_out ≡ true)
+      ⊎ ((row_of k).hands_out ≡ false) × (q ≡ p)

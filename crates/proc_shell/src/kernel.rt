@@ -1,7 +1,6 @@
 ghost use Rattle.std.specs.Prelude.{◌++◌, ◌<◌, ◌↔◌, ◌≡◌, ◌⊎◌};
-ghost use Rattle.proc_shell.specs.Names.{ArePortsOf, Begins, Bool, Fails, HasSpecPorts, IfErr, IfOk, IsKernelOf, IsLeftOf, IsShelled, IsTrue, IsValid, IsWorkOf, KernelState, List, Makes, None, Offers, OnOk, Reads, Some, Table, Takes, [], chunk_list, false, first_stage, growth_in, kind_of, true, work_of, ℕ};
+ghost use Rattle.proc_shell.specs.Names.{ArePortsOf, Begins, Bool, Fails, HasSpecPorts, IfErr, IfOk, IsKernelOf, IsLeftOf, IsShelled, IsTrue, IsValid, IsWorkOf, KernelState, List, Makes, None, Offers, OnOk, Reads, Some, Table, Takes, [], chunk_list, false, first_stage, growth_in, kind_of, true, work_of, ℕ, row_of};
 ghost use Rattle.query_model.specs.declared.processor_spec.Kind as the_kind;
-ghost use Rattle.query_model.specs.declared.processor_spec.Kind.TheVariants as kind;
 
 use chunk_data::{Chunk, Memory};
 use port_word::PortView;
@@ -88,8 +87,9 @@ pub trait Kernel: Drop {
         requires { (state self.old).stage.handed_out ≡ false }
         ensures kind { (state self.new).kind ≡ (state self.old).kind }
         ensures spec { (state self.new).spec ≡ (state self.old).spec }
-        ensures out { kind_is ≡ kind.Collect → (state self.new).stage.handed_out ≡ true }
-        ensures rows { kind_is ≡ kind.Collect
+        ensures out { (row_of kind_is).hands_out ≡ true
+            → (state self.new).stage.handed_out ≡ true }
+        ensures rows { (row_of kind_is).hands_out ≡ true
             → result.items ≡ (state self.old).own.gathered ++ chunk_list last };
 
     ghost of_kind: { (k : Self) → ((state k).kind ≡ kind_is) × (kind_of (state k).spec ≡ kind_is) };

@@ -6,8 +6,8 @@ use crate::kernel::Kernel;
 use crate::turns::move_chunks;
 use chunk_data::{Chunk, Memory};
 use port_word::PortView;
-use proc_api::{BoxNotes, PulledRows, Status, Wake, WorkFault, shut_down};
-use query_model::processor_spec::{Kind, Spec};
+use proc_api::{BoxNotes, PulledRows, Status, Wake, WorkFault, kind_row, shut_down};
+use query_model::processor_spec::Spec;
 use std::alloc::Global;
 use std::mem::replace;
 
@@ -128,7 +128,7 @@ impl<K: Kernel> Loaded<K> {
             (shell_state (K.state self.old.kernel) self.old.held self.old.notes)
             result.items (shell_state (K.state self.new.kernel) self.new.held self.new.notes) }
     {
-        if K::kind() != Kind::Collect {
+        if !kind_row(K::kind()).hands_out {
             return Vec::new(alloc);
         }
         let last = unworked_of(replace(&mut self.held, Held::Nothing));

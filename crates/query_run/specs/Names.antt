@@ -14,5 +14,5 @@ pub use Rattle.query_run.specs.declared.ending.PlanFailure.{PlanFailure}
 pub use Rattle.query_run.specs.declared.ending.Refused.{Refused}
 pub use Rattle.query_run.specs.declared.planning.PartPlace.{PartPlace}
 pub use Rattle.query_run.specs.declared.stock.Shortage.{Shortage}
-pub use Rattle.query_run.specs.declared.stock.TheConstants.{KINDS}
+pub use Rattle.proc_api.specs.declared.kind_rows.TheConstants.{KINDS}
 pub use Rattle.proc_api.specs.KindRows.{stock_of}

@@ -2,26 +2,9 @@ ghost use Rattle.std.specs.Prelude.{map, IfSome, IfNone};
 ghost use Rattle.select_planner.specs.Counts.{boxes_needed};
 ghost use Rattle.query_run.specs.Racks.{HasBoxes, IsShort};
 
-use proc_api::Rack;
+use proc_api::{KINDS, Rack};
 use query_model::processor_spec::Kind;
 use select_planner::{Plan, needs};
-
-/// All kinds, in their order.
-const KINDS: [Kind; 13] = [
-    Kind::Csv,
-    Kind::List,
-    Kind::Numbers,
-    Kind::Filter,
-    Kind::Expression,
-    Kind::Resize,
-    Kind::PartialAggregate,
-    Kind::MergeAggregate,
-    Kind::HashJoin,
-    Kind::Sort,
-    Kind::MergeSorted,
-    Kind::Limit,
-    Kind::Collect,
-];
 
 /// A rack has fewer boxes of a kind than are needed.
 #[derive(Clone, Copy)]

@@ -4,7 +4,7 @@ use Rattle.proc_api.specs.Boxes.{OwnState, idle_own}
 use Rattle.proc_api.specs.kinds.MergeSorted.{AreMerged, ready_rows}
 use Rattle.proc_api.specs.Names.{Lists}
 use Rattle.proc_api.specs.Prelude.{SortKey, SortSpec, list_all}
-use Rattle.proc_shell.proofs.Through.{pushes-in-order, shelled-plain}
+use Rattle.proc_shell.proofs.Through.{shelled-still}
 use Rattle.proc_shell.specs.Kernels.{IsShelled}
 use Rattle.sort_procs.specs.Heads.{at, heads_of, is_used}
 use Rattle.sort_procs.specs.declared.heads.Head.{Head}
@@ -33,6 +33,5 @@ pub record MergesSome (order : SortSpec) (old new : List Head) (t : Table) : Typ
 
 pub merge_shelled : (order : SortSpec) → IsShelled (spec.MergeSorted order)
 merge_shelled order =
-    shelled-plain (spec.MergeSorted order) refl (λ growth kept m n had h position. position)
-    (λ ins enough growth m n h. h)
-    (pushes-in-order (spec.MergeSorted order) refl (λ growth m n h. h))
+    shelled-still (spec.MergeSorted order) refl
+    (record { position = λ kept m n h. h; one = λ growth m n h. h })

@@ -37,4 +37,4 @@ pub record PutsInOrder (keys : List SortKey) (old new : OwnState) : Type 0 where
 
 pub sort_shelled : (order : SortSpec) → IsShelled (spec.Sort order)
 sort_shelled order =
-    shelled-of (spec.Sort order) 1 refl refl (record { ports = λ growth m n h. h })
+    shelled-of (spec.Sort order) 1 refl (record { ports = λ growth m n h. h })

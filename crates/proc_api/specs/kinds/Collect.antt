@@ -1,17 +1,8 @@
 -- A collector keeps its chunks until they are handed out.
-use Rattle.std.specs.Prelude.{◌≡◌}
-use Rattle.proc_api.specs.KindContract.{BoxPicture, KindContract, List, Lists, None, Table, chunk_by_chunk, drop, false, fixed_ports, idle_work, ℕ, ⊤}
+use Rattle.std.specs.Prelude.{◌++◌, ◌≡◌}
+use Rattle.proc_api.specs.KindContract.{KindContract, None, chunk_by_chunk, fixed_ports, idle_work, ⊤}
 
--- the first chunks of a list are worked, and these aren't yet
-pub record AreLastPulled (unworked ins : List Table) : Type 0 where
-  pub worked : ℕ
-  pub are : unworked ≡ drop worked ins
-
--- what a collector hands out are the chunks that it pulled
-pub record KeepsCollect (p : BoxPicture) (ins : Lists) : Type 0 where
-  pub gathered : p.work.handed_out ≡ false → p.work.gathered ≡ ins 0
-  pub last : AreLastPulled p.work.unworked (ins 0)
-
+-- What it gathered are the chunks that it worked and, behind them, those that it hasn't worked yet.
 abbrev pub collect_contract : KindContract
 collect_contract = record {
   ports = fixed_ports 1 0;
@@ -20,6 +11,6 @@ collect_contract = record {
   most_rows = None;
   idle = λ w. w ≡ record idle_work
       { unworked = w.unworked; gathered = w.gathered; handed_out = w.handed_out };
-  made = λ own worked outs wait. ⊤;
-  traits = record chunk_by_chunk { keeps = λ made p ins outs. KeepsCollect p ins };
+  made = λ x own worked outs wait. own.gathered ≡ worked 0 ++ x.unworked;
+  traits = chunk_by_chunk;
 }

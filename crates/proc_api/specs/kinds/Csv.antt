@@ -1,43 +1,38 @@
 -- A source gives the good rows of its part, those before its first bad place.
 use Rattle.std.specs.Prelude.{◌++◌, ◌≡◌}
-use Rattle.proc_api.specs.Boxes.{kept_output}
-use Rattle.proc_api.specs.KindContract.{BoxPicture, Files, KindContract, List, Lists, None, Option, PartSpec, Row, Some, [], bad_place, chunk_by_chunk, chunk_rows, false, file_bytes, fixed_ports, good_rows, idle_work, part_records, true, ℕ, ⊤}
+use Rattle.proc_api.specs.KindContract.{FileSeen, Files, KindContract, List, None, Option, PartSpec, Row, Some, [], bad_place, chunk_by_chunk, chunk_rows, false, file_bytes, fixed_ports, good_rows, idle_work, part_records, true, ℕ, ⊤}
 
 -- the bytes of a part or list: those of its file, where files are told, and else any
 abbrev pub ArePartBytes : Option Files → List ℕ → List ℕ → Type 0
 ArePartBytes None path bytes = ⊤
 ArePartBytes (Some files) path bytes = file_bytes files path ≡ Some bytes
 
--- the rows of out, those that wait and those not yet made are the good rows of the part, and its
--- bad place is known
-pub record KeepsPartRows (part : PartSpec) (p : BoxPicture) (out : List Row) : Type 0 where
+-- the rows and those not yet made are the good rows of the part, and its bad place is known
+pub record ArePartRows (files : Option Files) (f : FileSeen) (part : PartSpec)
+    (unmade rows : List Row) : Type 0 where
   pub bytes : List ℕ
-  pub are : ArePartBytes p.files part.path bytes
-  pub rows : out ++ (chunk_rows p.work.made ++ p.work.unmade)
-      ≡ good_rows part.types (part_records part.header bytes)
-  pub bad : p.work.bad ≡ bad_place 1 part.types (part_records part.header bytes)
+  pub are : ArePartBytes files part.path bytes
+  pub rows_are : rows ++ unmade ≡ good_rows part.types (part_records part.header bytes)
+  pub bad : f.bad ≡ bad_place 1 part.types (part_records part.header bytes)
 
 -- no row was made so far
-pub record HasMadeNothing (p : BoxPicture) (out : List Row) : Type 0 where
-  pub nothing_out : out ≡ []
-  pub nothing_waits : p.work.made ≡ []
-  pub nothing_unmade : p.work.unmade ≡ []
-  pub nothing_bad : p.work.bad ≡ None
+pub record HasMadeNothing (f : FileSeen) (unmade rows : List Row) : Type 0 where
+  pub no_rows : rows ≡ []
+  pub nothing_unmade : unmade ≡ []
+  pub nothing_bad : f.bad ≡ None
 
--- all rows of a valid part were pushed
-pub record HasPushedPart (p : BoxPicture) : Type 0 where
-  pub fetched : p.work.fetched ≡ true
-  pub nothing_waits : p.work.made ≡ []
-  pub all_made : p.work.unmade ≡ []
-  pub valid : p.work.bad ≡ None
+-- until a file is fetched whole no row is made of it
+pub record ArePartRead (files : Option Files) (f : FileSeen) (part : PartSpec)
+    (unmade rows : List Row) : Type 0 where
+  pub before : f.fetched ≡ false → HasMadeNothing f unmade rows
+  pub fetched : f.fetched ≡ true → ArePartRows files f part unmade rows
 
--- A source gives the good rows of its part, those before its first bad place. Once it has itself
--- finished its output they are all pushed, and the part is valid.
-pub record KeepsPart (part : PartSpec) (p : BoxPicture) (outs : Lists) : Type 0 where
-  pub before : p.work.fetched ≡ false → HasMadeNothing p (chunk_rows (outs 0))
-  pub fetched : p.work.fetched ≡ true → KeepsPartRows part p (chunk_rows (outs 0))
-  pub finished : (kept_output p 0).fin_out ≡ true → HasPushedPart p
+-- a part is fetched whole, and valid
+pub record IsPartRead (f : FileSeen) : Type 0 where
+  pub fetched : f.fetched ≡ true
+  pub valid : f.bad ≡ None
 
+-- Once it has itself finished its output all rows are pushed, and the part is valid.
 abbrev pub part_contract : PartSpec → KindContract
 part_contract part = record {
   ports = fixed_ports 0 1;
@@ -46,7 +41,7 @@ part_contract part = record {
   most_rows = Some part.rows;
   idle = λ w. w ≡ record idle_work
       { made = w.made; unmade = w.unmade; opened = w.opened; fetched = w.fetched; bad = w.bad };
-  made = λ own worked outs wait. ⊤;
-  traits = record chunk_by_chunk
-      { part = Some part; keeps = λ made p ins outs. KeepsPart part p outs };
+  made = λ x own worked outs wait.
+      ArePartRead x.files x.file part own.unmade (chunk_rows (outs 0) ++ wait);
+  traits = record chunk_by_chunk { part = Some part; read_out = IsPartRead };
 }

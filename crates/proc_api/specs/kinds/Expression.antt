@@ -16,7 +16,7 @@ expression_contract items = record {
   types = IsMadeOfPulled items;
   most_rows = None;
   idle = λ w. w ≡ record idle_work { unworked = w.unworked; made = w.made };
-  made = λ own worked outs wait.
+  made = λ x own worked outs wait.
       chunk_rows (outs 0) ++ wait ≡ map (item_row items) (chunk_rows (worked 0));
   traits = chunk_by_chunk;
 }

@@ -14,7 +14,7 @@ filter_contract c = record {
   types = IsFitPulled c;
   most_rows = None;
   idle = λ w. w ≡ record idle_work { unworked = w.unworked; made = w.made };
-  made = λ own worked outs wait.
+  made = λ x own worked outs wait.
       chunk_rows (outs 0) ++ wait ≡ filter (holds c) (chunk_rows (worked 0));
   traits = chunk_by_chunk;
 }

@@ -42,7 +42,7 @@ join_contract join = record {
   types = λ ins types. types ≡ join.left ++ join.right;
   most_rows = Some join.rows;
   idle = IsJoinWork;
-  made = λ own worked outs wait. AreJoined join.pairs own (chunk_rows (worked 0))
+  made = λ x own worked outs wait. AreJoined join.pairs own (chunk_rows (worked 0))
       (chunk_rows (worked 1)) (chunk_rows (outs 0) ++ wait);
   traits = record reads_all_first { notes = λ own i. (i ≡ 1) × (own.ended ≡ true) };
 }

@@ -18,7 +18,7 @@ limit_contract span = record {
   types = IsPulled;
   most_rows = None;
   idle = λ w. w ≡ record idle_work { unworked = w.unworked; made = w.made; read = w.read };
-  made = λ own worked outs wait.
+  made = λ x own worked outs wait.
       AreLimited span (chunk_rows (worked 0)) (chunk_rows (outs 0) ++ wait) own.read;
   traits = record chunk_by_chunk {
     enough = λ ins. enough span ≤ length (chunk_rows (ins 0));

@@ -1,9 +1,8 @@
 -- A list of parts grows by a source for each path, and passes on what these give.
 use Rattle.std.specs.Prelude.{◌++◌, ◌+◌, ◌<◌, ◌∷◌, ◌≡◌}
-use Rattle.proc_api.specs.Boxes.{kept_inputs, kept_output}
 use Rattle.query_model.specs.declared.processor_spec.Spec.TheVariants as spec
 use Rattle.proc_api.specs.Forms.{GrowthForm, SpecForm}
-use Rattle.proc_api.specs.KindContract.{AreCounts, BoxPicture, Edge, FileSeen, Files, IfSome, KindContract, List, Me, New, None, Option, PartSpec, Some, [], bad_line_in, chunk_by_chunk, false, file_of, grown_inputs, length, map, moved_work, paths_in, true, unboxed, ℕ}
+use Rattle.proc_api.specs.KindContract.{AreCounts, Edge, FileSeen, Files, IfSome, KindContract, List, Lists, Me, New, None, Option, PartSpec, Row, Some, [], bad_line_in, chunk_by_chunk, false, grown_inputs, length, map, moved_work, paths_in, true, unboxed, ℕ}
 use Rattle.proc_api.specs.kinds.Csv.{ArePartBytes}
 use Rattle.proc_api.specs.kinds.Resize.{AreResized}
 
@@ -62,16 +61,16 @@ pub record IsListGrowth (list : PartSpec) (files : Option Files) (g : GrowthForm
   pub is : g ≡ list_growth list (paths_in (Some text))
 
 -- A valid list is fetched, and each of its paths has its input.
-pub record HasReadList (p : BoxPicture) : Type 0 where
-  pub fetched : p.work.fetched ≡ true
-  pub valid : p.work.bad_line ≡ None
-  pub inputs : kept_inputs p ≡ length p.work.paths
+pub record IsListReadOut (f : FileSeen) : Type 0 where
+  pub fetched : f.fetched ≡ true
+  pub valid : f.bad_line ≡ None
+  pub inputs : grown_inputs f.growth ≡ length f.paths
 
--- where it has made what its kind says
-pub record KeepsListed (list : PartSpec) (has_made : Type 0) (p : BoxPicture) : Type 0 where
-  pub knows : KnowsList list p.files (file_of p)
-  pub made : has_made
-  pub finished : (o : ℕ) → (kept_output p o).fin_out ≡ true → HasReadList p
+-- What it knows of its file, and that it has passed on what it is given.
+pub record IsListPassed (files : Option Files) (f : FileSeen) (list : PartSpec)
+    (worked outs : Lists) (wait : List Row) : Type 0 where
+  pub knows : KnowsList list files f
+  pub resized : AreResized worked outs wait
 
 abbrev pub list_contract : PartSpec → KindContract
 list_contract list = record {
@@ -86,11 +85,13 @@ list_contract list = record {
     paths = w.paths;
     bad_line = w.bad_line;
   };
-  made = λ own worked outs wait. AreResized worked outs (wait ++ own.unmade);
+  made = λ x own worked outs wait.
+      IsListPassed x.files x.file list worked outs (wait ++ own.unmade);
   traits = record chunk_by_chunk {
     ungrown = ⊥;
     part = Some list;
     grows = IsListGrowth list;
-    keeps = λ made p ins outs. KeepsListed list made p;
+    growth = λ paths. Some (list_growth list paths);
+    read_out = IsListReadOut;
   };
 }

@@ -10,7 +10,7 @@ merge_contract groups = record {
   types = λ ins types. types ≡ spec_group_types groups;
   most_rows = Some groups.rows;
   idle = IsGatheringWork;
-  made = λ own worked outs wait. AreGrouped (spec_group_types groups) (merged_states groups)
+  made = λ x own worked outs wait. AreGrouped (spec_group_types groups) (merged_states groups)
       (merged_rows groups) own (all_rows 32 worked) (chunk_rows (outs 0) ++ wait);
   traits = record reads_all_first { still = AreAsKept };
 }

@@ -58,7 +58,7 @@ merged_contract order = record {
   types = λ ins types. types ≡ order.types;
   most_rows = Some order.rows;
   idle = λ w. w ≡ record (moved_work w) { unmade = w.unmade; heads = w.heads };
-  made = λ own worked outs wait. (own.unmade ≡ ready_rows own.heads)
+  made = λ x own worked outs wait. (own.unmade ≡ ready_rows own.heads)
       × AreMerged order.keys own.heads worked (chunk_rows (outs 0) ++ wait);
   traits = record chunk_by_chunk {
     still = AreAsKept;

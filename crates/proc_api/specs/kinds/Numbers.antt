@@ -9,6 +9,6 @@ numbers_contract n rows = record {
   types = λ ins types. types ≡ ColumnType.UInt64 ∷ [];
   most_rows = Some rows;
   idle = λ w. w ≡ record (moved_work w) { unmade = w.unmade };
-  made = λ own worked outs wait. (chunk_rows (outs 0) ++ wait) ++ own.unmade ≡ (numbers n).rows;
+  made = λ x own worked outs wait. (chunk_rows (outs 0) ++ wait) ++ own.unmade ≡ (numbers n).rows;
   traits = chunk_by_chunk;
 }

@@ -10,7 +10,7 @@ partial_contract groups = record {
   types = λ ins types. types ≡ spec_group_types groups;
   most_rows = Some groups.rows;
   idle = IsGatheringWork;
-  made = λ own worked outs wait. AreGrouped (partial_types groups) (partial_rows groups)
+  made = λ x own worked outs wait. AreGrouped (partial_types groups) (partial_rows groups)
       (partial_rows groups) own (chunk_rows (worked 0)) (chunk_rows (outs 0) ++ wait);
   traits = reads_all_first;
 }

@@ -20,6 +20,6 @@ resize_contract = record {
   types = IsPulled;
   most_rows = None;
   idle = λ w. w ≡ moved_work w;
-  made = λ own worked outs wait. (own.unmade ≡ []) × AreResized worked outs wait;
+  made = λ x own worked outs wait. (own.unmade ≡ []) × AreResized worked outs wait;
   traits = record chunk_by_chunk { still = AreAsKept };
 }

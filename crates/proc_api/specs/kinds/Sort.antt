@@ -35,7 +35,7 @@ sort_contract order = record {
   types = λ ins types. types ≡ order.types;
   most_rows = Some order.rows;
   idle = IsGatheringWork;
-  made = λ own worked outs wait.
+  made = λ x own worked outs wait.
       AreSorted order.keys own (chunk_rows (worked 0)) (chunk_rows (outs 0) ++ wait);
   traits = reads_all_first;
 }

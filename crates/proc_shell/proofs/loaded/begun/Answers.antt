@@ -7,6 +7,5 @@ returns g c = record {
   stage = c.in_ok-kernel.ensures.stage;
   held = refl;
   notes = c.in_ok-notes.ensures;
-  shelled = g.met.K.Kernel.shelled c.in_ok-kernel.kernel;
   uses = g.met.K.Kernel.uses c.in_ok-kernel.kernel 0 [] [] (inl (refl, refl)) (λ e. refl);
 }

@@ -1,5 +1,4 @@
-use Rattle.proc_shell.proofs.Imports.{Ready, arith, rules, sym, ◌∙◌, ◌≡◌}
-use Rattle.query_model.specs.declared.processor_spec.Kind.TheVariants as kind
+use Rattle.proc_shell.proofs.Imports.{Ready, ap, arith, row_of, rules, sym, true, ◌∙◌, ◌≡◌}
 use Rattle.proc_shell.proofs.Resizing.{resize-passes}
 use Rattle.proc_shell.proofs.SeveralTurns.{turns-again, turns-once}
 use Rattle.proc_shell.proofs.turns.move_chunks.Goals as goal
@@ -23,10 +22,13 @@ pub loop-next-preserved : goal.loop-next-preserved
 loop-next-preserved g c =
     let t = c.run_turn-status-in-loop-next in
     let l = c.loop-next in
-    let of : c.kind.result ≡ kind.Resize = search rules in
+    let of : c.kind_row.result.passes_on ≡ true = search rules in
     let ready : l.status ≡ Ready = search rules in (
       λ notes. turns-again _ (g.K.Kernel.open_to l.kernel) g.K.Kernel.makes _ _ _ _ _ _ _ _ _ _ _
-          _ _ _ (resize-passes _ ((g.met.K.Kernel.of_kind l.kernel).1 ∙ sym c.kind.ensures ∙ of))
+          _ _ _ (resize-passes _
+          (ap (λ k. (row_of k).passes_on)
+          ((g.met.K.Kernel.of_kind l.kernel).1 ∙ sym c.kind.ensures)
+          ∙ sym c.kind_row.ensures.passes ∙ of))
           ready c.requires.ports c.requires.few l.invariant.1 c.if-not-pass_on.ensures
           t.ensures.same t.ensures.turns t.ensures.counts (l.invariant.0 notes),
       t.ensures.wanted,
