@@ -9,3 +9,4 @@ pub mod Chunks
 pub mod Laws
 pub mod RowOrder
 pub mod Crossing
+pub mod Places

@@ -2,5 +2,6 @@ pub mod formers
 pub mod Texts
 pub mod Values
 pub mod Rows
+pub mod Places
 pub mod Columns
 pub mod Names

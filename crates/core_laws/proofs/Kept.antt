@@ -1,7 +1,8 @@
 -- Every step keeps the laws: of edges, of nodes, and of tokens.
 use Rattle.core_laws.proofs.Imports.{Act, Bool, Close, CoreState, EdgeHolds, Edges, EndTold, EndsAreTold, Finish, Flags, Laws, List, NodeState, NodeStateHolds, Nodes, None, Option, PortState, Pull, Push, Sees, Sight, Sizes, Some, Step, TokensHold, Unwant, Want, Wire, WireHolds, WordHolds, [], acted, acting_end, adding, after, and_parts, ap, arith, bit_at_end, bit_of, bit_or, born, both_ways, cases_Bool, cases_eq, changed, cond, cond_both, counts, edges_of, end_of, eqb, eqb-true, false, fits, flags_at, fresh_sight, get_or-le-sum_by, get_or-set_other, get_or-set_same, get_or_default, has, inl, inr, is_edge, is_excused, is_held_end, is_none, is_none_of, is_over, is_set, is_unborn, is_updated, knows, lacks, learned, learning, left, length, length-set, looked, map-append, marked, may, may_act, may_wire, names, ne_eqb, no_node, no_port, node_at, node_of, not, once, or_cases, or_left, or_right, peer_in, port_after, port_at, port_of, put_node, refl, seeing, set, set-get_or, spent, subst, sum_by-le, sum_by-set, sym, taken, telling, tells, true, weight, wire_ok, wiring, with_bit, with_tokens, without, ℕ, ◌&&◌, ◌*◌, ◌+◌, ◌-◌, ◌<◌, ◌^◌, ◌||◌, ◌∙◌, ◌∷◌, ◌≡◌, ◌≢◌, ◌≤◌}
+use Rattle.chunk_data.proofs.Places.{at-set}
 use Rattle.core_laws.specs.declared.types.Step.TheVariants as step
-use Rattle.core_laws.proofs.Lists.{at_put, has-filter, once-filter, has-last, has-adding, once-last, once-adding, edges-seeing, seeing-here, seeing-other, flags-unknown, flags-last}
+use Rattle.core_laws.proofs.Lists.{has-filter, once-filter, has-last, has-adding, once-last, once-adding, edges-seeing, seeing-here, seeing-other, flags-unknown, flags-last}
 use Rattle.core_laws.proofs.Bits.{zero-clear, pow-clear, or-other, or-here, or-more, word-one, word-idle, word-told, flip-other, flip-lone, word-born, end-within, at-end, peer-of, EndOf, end-of, an-end, not-not, both-ends}
 use Rattle.core_laws.proofs.Moves.{EndMoves, act-moves, same-flags, lacks-none, look-moves}
 
@@ -38,7 +39,7 @@ module _ (c : CoreState) (n : ℕ) (nd : NodeState) (inside : n < length c.nodes
 
   -- what a change of one node leaves the same of it, it leaves of all
   now-same : {B : Type 0} (g : NodeState → B) → g nd ≡ g old → (m : ℕ) → g (now m) ≡ g (node_at c m)
-  now-same g q m = at_put (λ x. g x ≡ g (node_at c m)) c.nodes n m nd no_node inside
+  now-same g q m = at-set (λ x. g x ≡ g (node_at c m)) c.nodes n m nd no_node inside
       (λ e. q ∙ sym (ap (λ k. g (node_at c k)) e)) (λ _. refl)
 
   -- the laws of a state with these ports, this node, and another pending number
@@ -50,21 +51,21 @@ module _ (c : CoreState) (n : ℕ) (nd : NodeState) (inside : n < length c.nodes
   frame ps p len is_held_end known each count edges nodes = record {
     edges = record {
       count = len ∙ edges.count;
-      known = λ m d k. subst (λ l. d < l) (sym len) (at_put
+      known = λ m d k. subst (λ l. d < l) (sym len) (at-set
           (λ y. knows d y.seen ≡ true → d < length c.ports) c.nodes n m nd no_node inside
           (λ _. known d) (λ _. edges.known m d) k);
       each = λ d i. (each d (subst (λ k. d < k) len i)).0;
     };
     nodes = record {
       number = length-set c.nodes n nd ∙ nodes.number;
-      each = λ m. at_put NodeStateHolds c.nodes n m nd no_node inside (λ _. is_held_end)
+      each = λ m. at-set NodeStateHolds c.nodes n m nd no_node inside (λ _. is_held_end)
           (λ _. nodes.each m);
       told = λ d i. (each d (subst (λ k. d < k) len i)).1;
     };
     tokens = λ t. record {
       pending = let z = sum_by-set weight c.nodes n nd no_node inside in let y = t.pending in
           let x = (count t).1 in omega (arith, x, y, z);
-      few = λ m. at_put (λ y. y.tokens ≤ 2) c.nodes n m nd no_node inside (λ _. (count t).0)
+      few = λ m. at-set (λ y. y.tokens ≤ 2) c.nodes n m nd no_node inside (λ _. (count t).0)
           (λ _. t.few m);
     };
   }
@@ -83,16 +84,16 @@ module _ (c : CoreState) (n : ℕ) (nd : NodeState) (inside : n < length c.nodes
       content = h.0.content;
       bare = h.0.bare;
       sees = λ b w i. subst (λ f. Sees b p.flags f) (sym (flags (end_of b w))) (h.0.sees b w i);
-      learned = λ m. at_put (λ y. knows d y.seen ≡ true → names m p.wire ≡ true) c.nodes n m nd
+      learned = λ m. at-set (λ y. knows d y.seen ≡ true → names m p.wire ≡ true) c.nodes n m nd
           no_node inside (λ t k. subst (λ i. names i p.wire ≡ true) (sym t) (named k))
           (λ _. h.0.learned m);
     },
     λ b w i l. elim (or_cases _ _
         (h.1 b w i (subst (λ f. lacks b p.flags f ≡ true) (flags (end_of b w)) l))) [
-          | inl x ↦ or_left _ _ (at_put (λ y. is_excused y d (bit_of b w) ≡ true) c.nodes n
+          | inl x ↦ or_left _ _ (at-set (λ y. is_excused y d (bit_of b w) ≡ true) c.nodes n
               (end_of b w) nd no_node inside (λ t. excused b w i t
               (subst (λ m. is_excused (node_at c m) d (bit_of b w) ≡ true) t x)) (λ _. x))
-          | inr z ↦ at_put (λ y. (is_excused (now (end_of b w)) d (bit_of b w) || has d y.owes)
+          | inr z ↦ at-set (λ y. (is_excused (now (end_of b w)) d (bit_of b w) || has d y.owes)
               ≡ true) c.nodes n (end_of (not b) w) nd no_node inside (λ t. owes b w i t
               (subst (λ m. has d (node_at c m).owes ≡ true) t z)) (λ _. or_right _ _ z)
         ],
@@ -254,7 +255,7 @@ moved-kept c n e b ps q f looks owes g x is m none edges nodes =
     (frame c n nd inside (set c.ports e q) c.pending (length-set c.ports e q)
     (viewing-holds e f looks owes old (grind arith) known (nodes.each n))
     (λ d z. edges.known n d (sym (seen d) ∙ z))
-    (λ d i. at_put (Holds c.sizes (set c.nodes n nd) d) c.ports e d q no_port port_in
+    (λ d i. at-set (Holds c.sizes (set c.nodes n nd) d) c.ports e d q no_port port_in
     (λ t. subst (λ k. Holds c.sizes (set c.nodes n nd) k q) (sym t)
     (moved c n nd inside e b (port_at c e) q f owes m x known refl
     (λ l k z. let u = look e in let s = seen e in elim (cases_Bool looks) [
@@ -602,7 +603,7 @@ wire-kept c n e w g none edges nodes =
     (λ z. absurd (both_ways _ (unknown n) z))
     (λ u. frame c n nd inside (set c.ports e q) c.pending (length-set c.ports e q)
     (learning-holds e (node_at c n) u (nodes.each n)) (learning-known c n e port_in edges)
-    (λ d i. at_put (Holds c.sizes (set c.nodes n nd) d) c.ports e d q no_port port_in
+    (λ d i. at-set (Holds c.sizes (set c.nodes n nd) d) c.ports e d q no_port port_in
     (λ t. subst (λ k. Holds c.sizes (set c.nodes n nd) k q) (sym t) here)
     (λ ne. learning-edge c n e inside u d (port_at c d) (λ t. absurd (ne t))
     (edges.each d i, nodes.told d i))) (λ t. (t.few n, refl)) edges nodes)
@@ -649,7 +650,7 @@ wire-kept c n e w g none edges nodes =
         bare = λ z. absurd (cc);
         sees = λ b v _. subst (Sees b (port_at c e).flags) (sym (flags (end_of b v)))
             (same-flags b (port_at c e).flags);
-        learned = λ m. at_put (λ y. knows e y.seen ≡ true → names m (Some w) ≡ true) c.nodes n m nd
+        learned = λ m. at-set (λ y. knows e y.seen ≡ true → names m (Some w) ≡ true) c.nodes n m nd
             no_node inside (λ t _. grind arith) (λ _ k. absurd (both_ways _ (unknown m) k));
       },
       λ b v _ l. absurd (both_ways _ (lacks-none b (port_at c e).flags)

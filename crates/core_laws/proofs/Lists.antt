@@ -1,13 +1,5 @@
 -- Places in lists, sets of edges as lists, and sights in lists.
-use Rattle.core_laws.proofs.Imports.{Bool, Flags, List, Sight, [], adding, ap, arith, cases_eq, edges_of, eqb, false, filter, flags_at, get_or, get_or-set_other, get_or-set_same, has, inl, inr, knows, length, no_flags, once, refl, seeing, set, subst, sym, true, ℕ, ◌&&◌, ◌++◌, ◌<◌, ◌||◌, ◌∙◌, ◌∷◌, ◌≡◌, ◌≢◌}
-
--- what holds of a place of a list in which one place was set
-pub at_put : {A : Type 0} (P : A → Type 0) (l : List A) (n m : ℕ) (x d : A) → n < length l
-    → (m ≡ n → P x) → (m ≢ n → P (get_or l m d)) → P (get_or (set l n x) m d)
-at_put P l n m x d h here other = elim (cases_eq m n) [
-  | inl e ↦ subst P (sym (ap (λ k. get_or (set l n x) k d) e ∙ get_or-set_same l n x d h)) (here e)
-  | inr ne ↦ subst P (sym (get_or-set_other l n m x d ne)) (other ne)
-]
+use Rattle.core_laws.proofs.Imports.{Bool, Flags, List, Sight, [], adding, arith, edges_of, eqb, false, filter, flags_at, has, knows, no_flags, once, refl, seeing, set, true, ℕ, ◌&&◌, ◌++◌, ◌||◌, ◌∷◌, ◌≡◌, ◌≢◌}
 
 -- ---- sets
 

@@ -1,5 +1,6 @@
 -- What a step of the fetch does, by what the reader gave.
-use Rattle.csv_procs.proofs.Imports.{Bool, Fetching, FileState, HoldsFront, HoldsFront-block, HoldsFront-whole, HoldsMore, IsAfter, IsFile, IsKnownOf, IsWholeFile, List, MatchesReader, Notes, Ok, PartSpec, Paths, ReaderState, Rows, StandsAtEnd, Steps, StepsTo, Wake, ap, arith, bad_place, false, inl, length, length-append, raised, refl, stage_in, subst, sym, true, ℕ, ◌+◌, ◌-◌, ◌∙◌, ◌≡◌, ◌≤◌}
+use Rattle.csv_procs.proofs.Imports.{Bool, Fetching, FileState, HoldsFront, HoldsMore, IsAfter, IsFile, IsKnownOf, IsWholeFile, List, MatchesReader, Notes, Ok, PartSpec, Paths, ReaderState, Rows, StandsAtEnd, Steps, StepsTo, Wake, ap, arith, bad_place, false, inl, length, length-append, raised, refl, stage_in, subst, sym, true, ℕ, ◌+◌, ◌-◌, ◌∙◌, ◌≡◌, ◌≤◌}
+use Rattle.csv_procs.proofs.HeldFiles.{HoldsFront-block, HoldsFront-whole}
 use Rattle.proc_api.specs.declared.status.Wake.TheVariants as wake
 
 module _ (x y : ReaderState) (after : IsAfter x y) (lists : Bool) (part : PartSpec) (held : List ℕ)
@@ -21,8 +22,8 @@ module _ (x y : ReaderState) (after : IsAfter x y) (lists : Bool) (part : PartSp
   })
 
   -- more of the file is held
-  pub more-step : (grown : List ℕ) (n' : Notes) → HoldsMore x.files x.position y.position held grown
-      1073741824 → n' ≡ record n { given = raised n.given (length grown - length held) }
+  pub more-step : (grown : List ℕ) (n' : Notes) → HoldsMore x y held grown 1073741824
+      → n' ≡ record n { given = raised n.given (length grown - length held) }
       → Steps x y lists part (Fetching held) (Fetching grown) n n' (Ok wake.Later)
   more-step grown n' more noted =
       let front = tied.front refl refl in

@@ -1,5 +1,6 @@
 -- The clauses of a source's calls.
-use Rattle.csv_procs.proofs.Imports.{ArePartBytes, AreResized, Bool, BoxPicture, Err, Expands, Fails, FaultComes, FaultHolds, FaultInCall, FaultIsDue, Faults, Fetching, FileState, Growth, Held, IfErr, IfOk, IfSome, IsFile, IsLongFile, IsLongTold, IsRead, IsWholeFile, IsWorkOf, KeepsRows, KeepsSame, Kind, KnowsList, List, ListedPaths, Lists, MatchesReader, None, Notes, NotesEnd, OfPart, Ok, Option, OwnState, PartMatchesReader, PartSpec, Paths, Position, Prepared, ReaderState, ReaderView, Result, RowCount, Rows, Schedules, Shut, Some, Status, StaysAt, StepComes, StepsTo, ToldFiles, Wake, WakeComes, WorkFault, ap, arith, bad_line_in, bad_place, bad_place_in, chunk_rows, cond, csv_kind, csv_spec, false, file_of, files_of, good_rows, grown-keeps, growth_form, had-same, held_made, held_unworked, inl, inr, is_fetched, is_grown, kept_input, kept_inputs, kept_output, kept_outputs, length, list_growth, list_uses, lists_in, loaded_seen, option_map, paths_of, refl, rows_if_some, shell_state, source_of, source_unmade, source_uses, sourcing, spec_growth, stage_in, subst, sym, told_as_pairs, true, with_answer, ℕ, ◌++◌, ◌+◌, ◌<◌, ◌∙◌, ◌≡◌, HasMade, IsReadOut, KeepsMade, own_of, reading_of}
+use Rattle.csv_procs.proofs.Imports.{ArePartBytes, AreResized, Bool, BoxPicture, Err, Expands, Fails, FaultComes, FaultHolds, FaultInCall, FaultIsDue, Faults, Fetching, FileState, Growth, Held, IfErr, IfOk, IfSome, IsFile, IsLongFile, IsLongTold, IsRead, IsWholeFile, IsWorkOf, KeepsRows, KeepsSame, Kind, KnowsList, List, ListedPaths, Lists, MatchesReader, None, Notes, NotesEnd, OfPart, Ok, Option, OwnState, PartMatchesReader, PartSpec, Paths, Position, Prepared, ReaderState, ReaderView, Result, RowCount, Rows, Schedules, Shut, Some, Status, StaysAt, StepComes, StepsTo, ToldFiles, Wake, WakeComes, WorkFault, ap, arith, bad_line_in, bad_place, bad_place_in, chunk_rows, cond, csv_kind, csv_spec, false, file_of, files_of, good_rows, grown-keeps, growth_form, had-same, held_made, held_unworked, inl, inr, is_fetched, is_grown, kept_input, kept_inputs, kept_output, kept_outputs, length, list_growth, list_uses, lists_in, loaded_seen, option_map, paths_of, refl, rows_if_some, shell_state, source_of, source_unmade, source_uses, sourcing, spec_growth, stage_in, subst, sym, true, with_answer, ℕ, ◌++◌, ◌+◌, ◌<◌, ◌∙◌, ◌≡◌, HasMade, IsReadOut, KeepsMade, own_of, reading_of}
+use Rattle.csv_procs.proofs.HeldFiles.{told_as_pairs}
 use Rattle.query_model.specs.declared.processor_spec.Spec.TheVariants as spec
 use Rattle.proc_api.specs.declared.status.Wake.TheVariants as wake
 use Rattle.proc_api.specs.declared.status.WorkFault.TheVariants as fault

@@ -1,31 +1,12 @@
 -- What a schedule of a source does, and what ties its part to its reader.
 use Rattle.std.specs.Prelude.{◌-◌, ◌<◌, ◌≡◌, ◌≤◌, ◌⊎◌}
-use Rattle.csv_procs.specs.Prelude.{Bool, CountIncreased, Err, Fetched, Fetching, FileEntry, FileState, HoldsFront, HoldsMore, IfSome, IsFile, IsSome, IsToldTooLong, List, LoadedShell, None, Notes, Ok, Option, PartSpec, PassesLimit, Paths, Result, Rows, Shut, Some, SourceStage, Spec, StandsAtEnd, Wake, WorkFault, bad_line_in, bad_place, false, length, part_records, paths_in, raised, told_bytes, true, ℕ}
+use Rattle.csv_procs.specs.Prelude.{Bool, CountIncreased, Err, Fetched, Fetching, FileState, IfSome, IsSome, List, LoadedShell, None, Notes, Ok, Option, PartSpec, Paths, Result, Rows, Shut, Some, SourceStage, Spec, StandsAtEnd, Wake, WorkFault, bad_line_in, bad_place, false, length, part_records, paths_in, raised, told_bytes, true, ℕ}
 use Rattle.query_model.specs.declared.processor_spec.Spec.TheVariants as spec
-use Rattle.csv_rows.specs.declared.file_fetch.Fetched.TheVariants as fetched
+use Rattle.csv_procs.specs.declared.file_fetch.Fetched.TheVariants as fetched
 use Rattle.proc_api.specs.declared.status.Wake.TheVariants as wake
 use Rattle.proc_api.specs.declared.status.WorkFault.TheVariants as fault
+use Rattle.csv_procs.specs.FileFetch.{HoldsFront, HoldsMore, IsAfter, IsFile, IsToldTooLong, PassesLimit, Position, ReaderState, ToldFiles}
 use Rattle.csv_procs.specs.Parts.{IsWholeFile, stage_in}
-
--- where a reader stands: a path, and the place in its file
-abbrev pub Position : Type 0
-Position = Option (List ℕ × ℕ)
-
-abbrev pub ToldFiles : Type 0
-ToldFiles = Option (List FileEntry)
-
--- a reader: the files that it tells, where it stands, and its counts
-pub record ReaderState : Type 0 where
-  pub files : ToldFiles
-  pub position : Position
-  pub faults : ℕ
-  pub pendings : ℕ
-
--- it tells the same files, and its counts don't fall
-pub record IsAfter (x y : ReaderState) : Type 0 where
-  pub told : y.files ≡ x.files
-  pub faults_kept : x.faults ≤ y.faults
-  pub pendings_kept : x.pendings ≤ y.pendings
 
 -- the held bytes begin the file, and are all that the reader gave
 pub record HoldsPart (told : ToldFiles) (position : Position) (part : PartSpec) (held : List ℕ)
@@ -72,17 +53,12 @@ PartMatchesReader told position (Some p) = p.notes.fault ≡ None
 
 -- ---- one read
 
--- the bytes of a read pass the limit
-pub record ReadsTooMany (x y : ReaderState) (held : List ℕ) (n n' : Notes) : Type 0 where
-  pub count : ℕ
-  pub passes : PassesLimit x.files x.position y.position held 1073741824 count
-  pub noted : n' ≡ record n { given = raised n.given count }
-
--- what a read gave, and what was noted of it
+-- What a read gave, and what was noted of it. Of a file that is too long no more than a byte
+-- beyond the limit is noted.
 abbrev pub ReadGives : (x y : ReaderState) → (held grown : List ℕ) → (n n' : Notes)
     → Result Fetched WorkFault → Type 0
 ReadGives x y held grown n n' (Ok fetched.More) =
-    HoldsMore x.files x.position y.position held grown 1073741824
+    HoldsMore x y held grown 1073741824
     × (n' ≡ record n { given = raised n.given (length grown - length held) })
 ReadGives x y held grown n n' (Ok fetched.Whole) =
     StandsAtEnd x.files x.position × (grown ≡ held) × (n' ≡ n)
@@ -94,7 +70,8 @@ ReadGives x y held grown n n' (Err fault.Stalled) =
     × (1000000 ≤ n'.pendings)
 ReadGives x y held grown n n' (Err fault.Read) =
     CountIncreased x.faults y.faults × (n' ≡ record n { faults = raised n.faults 1 })
-ReadGives x y held grown n n' (Err fault.TooLong) = ReadsTooMany x y held n n'
+ReadGives x y held grown n n' (Err fault.TooLong) = PassesLimit x y held 1073741824
+    × (n' ≡ record n { given = raised n.given (1073741825 - length held) })
 ReadGives x y held grown n n' (Err fault.Memory) = n' ≡ n
 ReadGives x y held grown n n' (Err e) = ⊥
 

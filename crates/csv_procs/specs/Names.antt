@@ -1,5 +1,6 @@
 -- The names that this crate's contracts speak of, in one place.
-pub use Rattle.csv_procs.specs.Fetching.{IsAfter, MatchesReader, PartMatchesReader, ReadGives, ReaderState, Steps}
+pub use Rattle.csv_procs.specs.Fetching.{MatchesReader, PartMatchesReader, ReadGives, Steps}
+pub use Rattle.csv_procs.specs.FileFetch.{BlockGiven, FetchGives, IsAfter, ReaderState}
 pub use Rattle.csv_procs.specs.ListLines.{IsLineTaken}
 pub use Rattle.csv_procs.specs.PartSeen.{SourceView, seen_by}
 pub use Rattle.csv_procs.specs.Parts.{GivesLeft, GrowsByPaths, HasFitLeft, IsNextOfList, IsNextOfSource, IsSpecOf, IsWholeFile, csv_kind, inputs_in, left_rows, lists_in, open_in, sourcing, stage_in}

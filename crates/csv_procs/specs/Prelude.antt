@@ -3,11 +3,9 @@ pub use Rattle.csv_procs.specs.declared.file_state.ListedPaths.{ListedPaths}
 pub use Rattle.csv_procs.specs.declared.file_state.FileState.{FileState}
 pub use Rattle.csv_procs.specs.declared.file_state.FileState.TheVariants.{Fetching, Paths, Rows, Shut}
 pub use Rattle.csv_rows.specs.RowsLeft.{at_end}
-pub use Rattle.csv_rows.specs.Fetching.{HoldsFront, HoldsMore, IsFile, IsToldTooLong, PassesLimit}
-pub use Rattle.csv_rows.specs.declared.file_fetch.Fetched.{Fetched}
+pub use Rattle.csv_procs.specs.declared.file_fetch.Fetched.{Fetched}
 pub use Rattle.outside_io.specs.Counts.{CountIncreased}
 pub use Rattle.outside_io.specs.Told.{StandsAtEnd}
-pub use Rattle.outside_io.specs.declared.entries.FileEntry.{FileEntry}
 pub use Rattle.proc_api.specs.Forms.{growth_form}
 pub use Rattle.proc_api.specs.kinds.List.{list_growth, listed_edge, listed_part}
 pub use Rattle.proc_api.specs.Prelude.{bad_line_in, filter, paths_in}

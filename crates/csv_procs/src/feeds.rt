@@ -1,23 +1,21 @@
-ghost use Rattle.std.specs.Prelude.{◌≡◌};
-ghost use Rattle.csv_procs.specs.Names.{CountIncreased, IfOk, IfSome, IsAfter, IsSome, IsWholeFile, OnErr, OnOk, ReadGives, ReaderState, Some, lists_in, told_bytes};
+ghost use Rattle.std.specs.Prelude.{◌≡◌, ◌<◌, length};
+ghost use Rattle.csv_procs.specs.Names.{BlockGiven, CountIncreased, IfOk, IfSome, IsAfter, IsSome, IsWholeFile, OnErr, OnOk, ReadGives, ReaderState, Some, lists_in, told_bytes};
 
+use crate::file_fetch::{Fetched, fetch};
 use crate::file_kernel::FileKernel;
 use crate::file_state::FileState;
 use crate::listed_growth::listed_growth;
 use crate::listed_paths::read_list;
 use crate::sourcing::{Sourced, Sourcing};
 use chunk_data::{Bytes, Memory};
-use csv_rows::{FetchFault, Fetched, RowReader, hold_block};
+use csv_rows::RowReader;
 use outside_io::{Failed, FileReader, Got};
 use proc_api::{BoxNotes, Growth, Wake, WorkFault};
 use std::alloc::Global;
 use std::mem::replace;
 
-/// The most bytes that one read asks for.
-const BLOCK: usize = 65536;
-
 /// The most bytes of a part.
-const MOST_BYTES: u64 = 1_073_741_824;
+const MOST_BYTES: usize = 1_073_741_824;
 
 /// The reader stalls as soon as it had nothing to give so often.
 const MOST_PENDINGS: u64 = 1_000_000;
@@ -35,12 +33,12 @@ pub trait Feeds {
         ensures fault { OnErr result
             (CountIncreased (reader self.old).faults (reader self.new).faults) };
 
-    /// Makes one read of the file in which it stands, and notes what it gave.
-    fn fetch_more(&mut self, held: &mut Bytes, notes: &mut BoxNotes) -> Result<Fetched, WorkFault>
-        requires { IsSome (reader self.old).position }
+    /// Reads the next bytes of the file in which it stands into the front of the buffer.
+    fn read_block(&mut self, buffer: &mut [u8]) -> Result<Got, Failed>
+        requires open { IsSome (reader self.old).position }
+        requires room { 0 < length buffer.old }
         ensures after { IsAfter (reader self.old) (reader self.new) }
-        ensures gives { ReadGives (reader self.old) (reader self.new) held.old held.new notes.old
-            notes.new result };
+        ensures gives { BlockGiven (reader self.old) (reader self.new) buffer.new result };
 }
 
 impl<R: FileReader> Feeds for R {
@@ -55,34 +53,45 @@ impl<R: FileReader> Feeds for R {
         self.open_path(path)
     }
 
-    fn fetch_more(&mut self, held: &mut Bytes, notes: &mut BoxNotes) -> Result<Fetched, WorkFault> {
-        let had = held.len();
-        let mut buffer = [0; BLOCK];
-        match self.read_some(&mut buffer) {
-            Ok(Got::Bytes(n)) => match hold_block(held, &buffer[..n], MOST_BYTES) {
-                Ok(fetched) => {
-                    notes.note_given(held.len() - had);
-                    Ok(fetched)
-                }
-                Err(FetchFault::TooLong(n)) => {
-                    notes.note_given(n);
-                    Err(WorkFault::TooLong)
-                }
-                Err(_) => Err(WorkFault::Memory),
-            },
-            Ok(Got::End) => Ok(Fetched::Whole),
-            Ok(Got::Pending) => {
-                notes.note_pending();
-                if notes.pendings() >= MOST_PENDINGS {
-                    return Err(WorkFault::Stalled);
-                }
-                Ok(Fetched::Pending)
-            }
-            Err(Failed) => {
-                notes.note_failed();
-                Err(WorkFault::Read)
-            }
+    fn read_block(&mut self, buffer: &mut [u8]) -> Result<Got, Failed> {
+        self.read_some(buffer)
+    }
+}
+
+// Makes one read of the file in which the reader stands, and notes what it gave.
+fn fetch_more<F: Feeds>(
+    reader: &mut F,
+    held: &mut Bytes,
+    notes: &mut BoxNotes,
+) -> Result<Fetched, WorkFault>
+    requires { IsSome (F.reader reader.old).position }
+    ensures after { IsAfter (F.reader reader.old) (F.reader reader.new) }
+    ensures gives { ReadGives (F.reader reader.old) (F.reader reader.new) held.old held.new
+        notes.old notes.new result }
+{
+    let had = held.len();
+    match fetch(reader, held, MOST_BYTES as u64) {
+        Ok(Fetched::More) => {
+            notes.note_given(held.len() - had);
+            Ok(Fetched::More)
         }
+        Ok(Fetched::Whole) => Ok(Fetched::Whole),
+        Ok(Fetched::Pending) => {
+            notes.note_pending();
+            if notes.pendings() >= MOST_PENDINGS {
+                return Err(WorkFault::Stalled);
+            }
+            Ok(Fetched::Pending)
+        }
+        Err(WorkFault::Read) => {
+            notes.note_failed();
+            Err(WorkFault::Read)
+        }
+        Err(WorkFault::TooLong) => {
+            notes.note_given((MOST_BYTES + 1).saturating_sub(had));
+            Err(WorkFault::TooLong)
+        }
+        Err(fault) => Err(fault),
     }
 }
 
@@ -130,7 +139,7 @@ impl<S: Sourced> FileKernel for Sourcing<S> {
                     Err(WorkFault::Read)
                 }
             },
-            FileState::Fetching(held) => match reader.fetch_more(held, notes) {
+            FileState::Fetching(held) => match fetch_more(reader, held, notes) {
                 Ok(Fetched::Whole) => {
                     let bytes = replace(held, Bytes::new(alloc));
                     match whole_file(alloc, S::lists(), bytes, self.part.header) {

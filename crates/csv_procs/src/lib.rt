@@ -3,6 +3,7 @@
 #![tactic(auto)]
 
 mod feeds;
+mod file_fetch;
 mod file_kernel;
 mod file_source;
 mod file_state;
@@ -11,7 +12,9 @@ mod listed_growth;
 mod listed_paths;
 mod sourcing;
 
-pub use csv_rows::{Fetched, fetch, write_rows};
+pub use csv_rows::write_rows;
+pub use feeds::Feeds;
+pub use file_fetch::{Fetched, fetch};
 pub use file_kernel::FileKernel;
 pub use file_source::FileSource;
 pub use sourcing::{PartLists, Parts, Sourced, Sourcing};

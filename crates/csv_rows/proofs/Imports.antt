@@ -1,5 +1,5 @@
 -- The names from outside that this crate's proofs use, in one place.
-pub use Rattle.chunk_data.proofs.Imports.{AreLong, drop-drop, drop-take, get_or-map, column_type, length-drop, map-set, row_at, rows_of, set-get_or, take-take, take_at, values}
+pub use Rattle.chunk_data.proofs.Imports.{AreLong, drop-drop, get_or-map, column_type, length-drop, map-set, row_at, rows_of, set-get_or, take_at, values}
 pub use Rattle.chunk_data.proofs.Laws.{AreLong_push, length-FitsTypes, length-rows_of, rows_of_push}
 pub use Rattle.chunk_data.specs.declared.typed_column.Column.{Column}
 pub use Rattle.csv.specs.Machine.{Read, ends_at_end, is_end, state_code, step}
@@ -9,7 +9,7 @@ pub use Rattle.csv_rows.specs.RowsLeft.{ReadsFront, RowsLeft, TakesRow, at_end}
 pub use Rattle.query_model.proofs.Imports.{Table, append-nil, both_spelled, doubled, drop_all, drop_more, is_digit, length-append, length-map, nat_lt, numeral_below, row_front, rows_text, separator, spelled_value, take_all, value_at, value_text, with_digits}
 pub use Rattle.query_model.proofs.NumeralLaws.{with_digits-end, with_digits-numeral, with_digits-step}
 pub use Rattle.query_model.proofs.Reading.{bad_field-lengths, spelled_row-fits, spelled_row-lengths}
-pub use Rattle.std.proofs.Common.{IfSome, IsSome, nat_eq, take-append-drop}
+pub use Rattle.std.proofs.Common.{IsSome, nat_eq}
 pub use Rattle.std.proofs.lemmas.Bool.{and_parts, eq-eqb, eqb-true, false_from_ne_true, ne_eqb, not-true, or_cases, or_parts}
 pub use Rattle.std.proofs.lemmas.List.Sums.{prefix_len-le-length, prefix_len_is}
 pub use Rattle.std.proofs.lemmas.Simd.{chunk-drop, leading_from_mask_l, length-chunk, mask_l-mod, trailing_mask_l, zip2_of_maps, zip2_splat}

@@ -4,5 +4,4 @@ pub mod ByteRuns
 pub mod FieldPlaces
 pub mod PartPlaces
 pub mod Imports
-pub mod Fetching
 pub mod ShortNumbers

@@ -1,4 +1,3 @@
 pub mod Lines
 pub mod RowsLeft
 pub mod Places
-pub mod Fetching

@@ -6,14 +6,12 @@
 #![tactic(auto)]
 
 mod field_ends;
-mod file_fetch;
 mod record_by_field;
 mod row_reader;
 mod rows;
 mod short_numbers;
 mod text;
 
-pub use file_fetch::{FetchFault, Fetched, fetch, hold_block};
 pub use row_reader::RowReader;
 pub use rows::RowsFault;
 pub use text::write_rows;

@@ -1,5 +1,5 @@
 -- Births add up: those of a run are the ones so far, and then the next.
-use Rattle.exec_laws.proofs.Imports.{rules, AllByRecursion, AreAllBorn, AreBirths, AreOnce, Birth, Bool, BoxPicture, GivesBox, GrowthForm, HasForm, IsBirth, IsBlank, IsBorn, IsSome, IsTrue, KeepsBox, List, MayGrow, None, Option, Reserve, Some, Spec, SpecForm, TakeBlanks, Wire, [], all_places, ap, append-nil, append_assoc, arith, births_of, blanks_of, box_at, cases_Bool, cases_eq, cases_lt, cond, eq-eqb, false, flat_map-append, form_kind, get_or, get_or-append_right, get_or_append_left, grown_ranks, grown_wires, growth_list, growths_of, inl, inr, is_place, is_some, kept_growths, length, length-append, list_any, list_any-append, map, map-append, ne_eqb, or_parts, or_right, places_for, refl, reserve_of, set_ranks, subst, suc, sum_by-append, sym, true, wired_by, zero, ℕ, ◌++◌, ◌+◌, ◌-◌, ◌<◌, ◌==◌, ◌||◌, ◌∙◌, ◌∷◌, ◌≡◌, ◌≤◌}
+use Rattle.exec_laws.proofs.Imports.{rules, AllByRecursion, AreAllBorn, AreBirths, AreOnce-append, Birth, Bool, BoxPicture, GivesBox, GrowthForm, HasForm, IsBirth, IsBlank, IsBorn, IsSome, IsTrue, KeepsBox, List, MayGrow, None, Option, Reserve, Some, Spec, SpecForm, TakeBlanks, Wire, [], all_places, ap, append-nil, append_assoc, arith, births_of, blanks_of, box_at, cases_Bool, cases_eq, cases_lt, cond, eq-eqb, false, flat_map-append, form_kind, get_or, get_or-append_right, get_or_append_left, grown_ranks, grown_wires, growth_list, growths_of, inl, inr, is_place, is_some, kept_growths, length, length-append, list_any, list_any-append, map, map-append, ne_eqb, or_parts, or_right, places_for, refl, reserve_of, set_ranks, subst, suc, sum_by-append, sym, true, wired_by, zero, ℕ, ◌++◌, ◌+◌, ◌-◌, ◌<◌, ◌==◌, ◌||◌, ◌∙◌, ◌∷◌, ◌≡◌}
 use Rattle.exec_laws.proofs.Acting.{stays-both}
 use Rattle.exec_laws.proofs.Nodes.{not-blank}
 
@@ -53,40 +53,6 @@ all-both : {A : Type 0} (P : A → Type 0) (xs ys : List A) → AllByRecursion P
     → AllByRecursion P ys → AllByRecursion P (xs ++ ys)
 all-both P [] ys h k = k
 all-both P (x ∷ xs) ys h k = (h.0, all-both P xs ys h.1 k)
-
--- no number stands twice where none of the first list is in the second
-once-both : (P : ℕ → Type 0) (xs ys : List ℕ) → AreOnce xs → AreOnce ys
-    → ((j : ℕ) → j < length xs → P (get_or xs j 0))
-    → ((k : ℕ) → k < length ys → P (get_or ys k 0) → ⊥) → AreOnce (xs ++ ys)
-once-both P xs ys h k first second i j li lj e =
-    let len = length-append xs ys in
-    elim (cases_lt i (length xs)) [
-      | inl less ↦ elim (cases_lt j (length xs)) [
-        | inl below ↦ h i j less below (rw (
-          get_or_append_left xs ys 0 i less,
-          get_or_append_left xs ys 0 j below,
-        ) at e)
-        | inr le ↦ absurd (apart i j less le lj e)
-      ]
-      | inr more ↦ elim (cases_lt j (length xs)) [
-        | inl below ↦ absurd (apart j i below more li (sym e))
-        | inr le ↦
-            let same = k (i - length xs) (j - length xs) (omega (arith, li, more, len))
-            (omega (arith, lj, le, len)) (rw (
-              get_or-append_right xs ys i 0 more,
-              get_or-append_right xs ys j 0 le,
-            ) at e) in
-            omega (arith, same, more, le)
-      ]
-    ]
-  where
-    apart : (i j : ℕ) → i < length xs → length xs ≤ j → j < length (xs ++ ys)
-        → get_or (xs ++ ys) i 0 ≡ get_or (xs ++ ys) j 0 → ⊥
-    apart i j less le lj e =
-        let len = length-append xs ys in
-        second (j - length xs) (omega (arith, lj, le, len))
-        (subst P (rw (get_or_append_left xs ys 0 i less, get_or-append_right xs ys j 0 le) at e)
-        (first i less))
 
 -- the place that a number of a list is at
 pub record PlaceOf (places : List ℕ) (m : ℕ) : Type 0 where
@@ -243,7 +209,7 @@ module _ (reserves : List Reserve) (a b c : List BoxPicture)
         }) ys g.each);
     take = takes-both reserves a [] xs ys h.take (rw append-nil at (takes-then [] ys g.take));
     once = rw (all-places xs ys)
-        (once-both (λ n. IsBorn (box_at b n)) (all_places xs) (all_places ys) h.once g.once
+        (AreOnce-append (λ n. IsBorn (box_at b n)) (all_places xs) (all_places ys) h.once g.once
         places-born (each-place (λ n. IsBorn (box_at b n) → ⊥) ys (all-map (IsBirth reserves b c)
         (λ (x : Birth). (j : ℕ) → j < length x.places → IsBorn (box_at b (get_or x.places j 0)) → ⊥)
         (λ x i j lt born. not-blank _ born (i.unborn j lt)) ys g.each)));

@@ -1,6 +1,6 @@
 -- A graph that has grown is running on: new nodes as before their first move, new wires over which
 -- nothing passed, and a node with new ports.
-use Rattle.exec_laws.proofs.Imports.{ArePortsOf, AsksToGrow, Bool, BoxPicture, CellPicture, EdgeEndHolds, EdgeState, Files, FollowsKept, GrewCell, GrowthForm, HasEdge, HoldsGraph, Input, InputPort, IsBorn, IsFresh, IsListGrowth, IsNewNode, IsPort, IsTrue, List, Lists, MayGrow, Me, New, NewEdge, NodeHolds, None, Option, Output, PartSpec, Picture, Port, Running, Some, Spec, Who, Wire, [], after_grow, ap, arith, both_ways, cases_Bool, cases_eq, cases_lt, chunks_of, cond, count_by, end_node, eq-eqb, false, false_from_ne_true, follows-same, get_or, get_or-append_right, get_or-eq_default, get_or-replicate, get_or_append_left, grown_inputs, has_wrong_end, in_count, inl, input-of-count, input_at, input_count, inr, is_me, is_named, kept_input, kept_inputs, kept_output, kept_outputs, length, length-append, length-replicate, list_any, listed_edges, ltb-true, ne_eqb, new_edge, new_input, new_wire, new_wires, no_flags, no_input, no_lists, no_wire, not, or_parts, out_count, output-of-count, output_at, output_count, over_flags, pushes_to, refl, rules, sound-grow, subst, suc, sum_by-cons, sym, true, wire_at, ℕ, ◌++◌, ◌+◌, ◌-◌, ◌<◌, ◌==◌, ◌∙◌, ◌∷◌, ◌≡◌, ◌≢◌, ◌≤◌, ◌⊎◌}
+use Rattle.exec_laws.proofs.Imports.{ArePortsOf, AsksToGrow, Bool, BoxPicture, CellPicture, EdgeEndHolds, EdgeState, Files, FollowsKept, GrewCell, GrowthForm, HasEdge, HoldsGraph, Input, InputPort, IsBorn, IsFresh, IsListGrowth, IsNewNode, IsPort, IsTrue, List, Lists, MayGrow, Me, New, NewEdge, NodeHolds, None, Option, Output, PartSpec, Picture, Port, Running, Some, Spec, Who, Wire, [], after_grow, ap, arith, both_ways, cases_Bool, cases_eq, cases_lt, chunks_of, cond, count_by, count_by-append, count_by-cons, count_by-none, end_node, eq-eqb, false, false_from_ne_true, follows-same, get_or, get_or-append_right, get_or-eq_default, get_or-replicate, get_or_append_left, grown_inputs, has_wrong_end, in_count, inl, input-of-count, input_at, input_count, inr, is_me, is_named, kept_input, kept_inputs, kept_output, kept_outputs, length, length-append, length-replicate, list_any, listed_edges, ltb-true, ne_eqb, new_edge, new_input, new_wire, new_wires, no_flags, no_input, no_lists, no_wire, not, or_parts, out_count, output-of-count, output_at, output_count, over_flags, pushes_to, refl, rules, sound-grow, subst, sym, true, wire_at, ℕ, ◌++◌, ◌+◌, ◌-◌, ◌<◌, ◌==◌, ◌∙◌, ◌∷◌, ◌≡◌, ◌≢◌, ◌≤◌, ◌⊎◌}
 use Rattle.exec_laws.proofs.GrownGraphs.{not-false}
 use Rattle.exec_laws.proofs.Nodes.{busy-born, not-blank}
 use Rattle.exec_laws.proofs.Seeing.{port-below}
@@ -9,28 +9,6 @@ use Rattle.exec_laws.proofs.Starting.{new-end, new-node, new-view}
 use Rattle.query_model.specs.declared.processor_spec.Spec.TheVariants as spec
 use Rattle.exec_laws.specs.declared.edges.DueCall.TheVariants as call
 use Rattle.exec_laws.specs.declared.edges.NodeStatus.TheVariants as node
-
--- ---- counts of ports
-
-counts-more : {A : Type 0} (test : A → Bool) (x : A) (xs : List A)
-    → count_by test (x ∷ xs) ≡ cond (test x) 1 0 + count_by test xs
-counts-more test x xs = sum_by-cons (λ y. cond (test y) 1 0) x xs
-
-counts-append : {A : Type 0} (test : A → Bool) (xs ys : List A)
-    → count_by test (xs ++ ys) ≡ count_by test xs + count_by test ys
-counts-append test [] ys = let none : count_by test [] ≡ 0 = refl in omega (arith, none)
-counts-append test (x ∷ xs) ys = grind (arith, counts-more, counts-append test xs ys)
-
--- none of the wires has the node
-counts-none : (at : Wire → ℕ) (m : ℕ) (more : List Wire)
-    → ((e : ℕ) → e < length more → at (get_or more e no_wire) ≢ m)
-    → count_by (λ (w : Wire). at w == m) more ≡ 0
-counts-none at m [] h = refl
-counts-none at m (w ∷ more) h =
-    let a = counts-more (λ (x : Wire). at x == m) w more in
-    let off : (at w == m) ≡ false = ne_eqb (at w) m (h 0 (omega arith)) in
-    let b = counts-none at m more (λ e lt. h (suc e) (omega (arith, lt))) in
-    a ∙ rw (off, b) refl
 
 -- ---- a view with more ports
 
@@ -90,13 +68,13 @@ me-counts : (n count : ℕ) (places : List ℕ) (end : NewEdge → Who) (at : Wi
 me-counts n count places end at is other [] h = refl
 me-counts n count places end at is other (e ∷ edges) h =
     let both = or_parts _ _ h in
-    counts-more (λ (w : Wire). at w == n) (new_wire n places e) (new_wires n places edges)
+    count_by-cons (λ (w : Wire). at w == n) (new_wire n places e) (new_wires n places edges)
     ∙ rw (
       is e,
       own (end e) (not-false _ both.0),
       me-counts n count places end at is other edges both.1,
     )
-    (sym (counts-more (λ (x : NewEdge). is_me (end x)) e edges))
+    (sym (count_by-cons (λ (x : NewEdge). is_me (end x)) e edges))
   where
     own : (w : Who) → is_named count w ≡ true → (end_node n places w == n) ≡ is_me w
     own Me h = eq-eqb n n refl
@@ -117,8 +95,8 @@ pub grown-counts : (n count : ℕ) (places : List ℕ) (wires : List Wire) (edge
     ≡ output_count wires n + count_by (λ (e : NewEdge). is_me e.from.who) edges)
 grown-counts n count places wires edges other h =
     let named = named-ends count edges h in
-    let ins = counts-append (λ (w : Wire). w.to == n) wires (new_wires n places edges) in
-    let outs = counts-append (λ (w : Wire). w.from == n) wires (new_wires n places edges) in
+    let ins = count_by-append (λ (w : Wire). w.to == n) wires (new_wires n places edges) in
+    let outs = count_by-append (λ (w : Wire). w.from == n) wires (new_wires n places edges) in
     let to = me-counts n count places (λ e. e.to.who) (λ w. w.to) (λ e. refl) other edges named.1 in
     let from =
     me-counts n count places (λ e. e.from.who) (λ w. w.from) (λ e. refl) other edges named.0 in
@@ -127,7 +105,7 @@ grown-counts n count places wires edges other h =
 no-outputs : (paths : List (List ℕ)) (k : ℕ)
     → count_by (λ (e : NewEdge). is_me e.from.who) (listed_edges k paths) ≡ 0
 no-outputs [] k = refl
-no-outputs (path ∷ paths) k = grind (arith, counts-more, no-outputs paths (k + 1))
+no-outputs (path ∷ paths) k = grind (arith, count_by-cons, no-outputs paths (k + 1))
 
 -- a lawful box that grew is a list of parts
 pub record GrewList (s : Option Spec) (files : Option Files) (g : GrowthForm) : Type 0 where
@@ -206,10 +184,12 @@ module _ {count : ℕ} {wires : List Wire} {cells : ℕ → CellPicture} {edges 
     same-counts : (m : ℕ) → m ≢ n → is_new m ≡ false
         → (input_count all m ≡ input_count wires m) × (output_count all m ≡ output_count wires m)
     same-counts m ne old =
-        let ins = counts-append (λ (w : Wire). w.to == m) wires more in
-        let outs = counts-append (λ (w : Wire). w.from == m) wires more in
-        let no_ins = counts-none (λ w. w.to) m more (λ e le. (new-away m ne old e le).1) in
-        let no_outs = counts-none (λ w. w.from) m more (λ e le. (new-away m ne old e le).0) in
+        let ins = count_by-append (λ (w : Wire). w.to == m) wires more in
+        let outs = count_by-append (λ (w : Wire). w.from == m) wires more in
+        let no_ins = count_by-none no_wire (λ w. w.to == m) more (λ e le. ne_eqb _ m
+        (new-away m ne old e le).1) in
+        let no_outs = count_by-none no_wire (λ w. w.from == m) more (λ e le. ne_eqb _ m
+        (new-away m ne old e le).0) in
         (omega (arith, ins, no_ins), omega (arith, outs, no_outs))
 
     -- ---- nodes

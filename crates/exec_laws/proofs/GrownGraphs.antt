@@ -1,5 +1,5 @@
 -- A graph with the nodes and wires of a growth that has no flaw is a graph.
-use Rattle.exec_laws.proofs.Imports.{AreOnce, Bool, HasInputWire, HasOutputWire, IsEdge, IsGraph, IsGraphSoFar, List, Me, New, NewEdge, Who, Wire, [], and_parts, append-nil, append_assoc, arith, both_ways, cases_Bool, cases_eq, edge-added, end_node, end_rank, eq-eqb, false, get_or, get_or-append_right, get_or-set_other, get_or-set_same, get_or_append_left, has_gap, has_large_port, has_wrong_end, inl, input-below-count, input-of-count, input_count, inr, is-gapless, is_gapless, is_named, is_out_of_order, is_port_taken, length, length-append, length-set, list_any, list_any_at, ltb-true, ne_eqb, new_wire, new_wires, no_wire, not, or_parts, or_right, output-below-count, output-of-count, output_count, rank_at, refl, set, set_ranks, subst, suc, sym, true, wire-input, wire-output, wire_at, zero, ℕ, ◌++◌, ◌+◌, ◌<◌, ◌==◌, ◌∙◌, ◌∷◌, ◌≡◌, ◌≢◌, ◌≤◌}
+use Rattle.exec_laws.proofs.Imports.{AreOnce, AreOnce-head, AreOnce-tail, Bool, HasInputWire, HasOutputWire, IsEdge, IsGraph, IsGraphSoFar, List, Me, New, NewEdge, Who, Wire, [], and_parts, append-nil, append_assoc, arith, both_ways, cases_Bool, cases_eq, edge-added, end_node, end_rank, eq-eqb, false, get_or, get_or-append_right, get_or-set_other, get_or-set_same, get_or_append_left, has_gap, has_large_port, has_wrong_end, inl, input-below-count, input-of-count, input_count, inr, is-gapless, is_gapless, is_named, is_out_of_order, is_port_taken, length, length-append, length-set, list_any, list_any_at, ltb-true, ne_eqb, new_wire, new_wires, no_wire, not, or_parts, or_right, output-below-count, output-of-count, output_count, rank_at, refl, set, set_ranks, subst, suc, sym, true, wire-input, wire-output, wire_at, zero, ℕ, ◌++◌, ◌+◌, ◌<◌, ◌==◌, ◌∙◌, ◌∷◌, ◌≡◌, ◌≢◌, ◌≤◌}
 
 -- ---- the ranks of new nodes
 
@@ -26,14 +26,6 @@ set_ranks-other ranks (p ∷ places) (r ∷ new) n h =
     set_ranks-other (set ranks p r) places new n (avoids-rest p places n h)
     ∙ get_or-set_other ranks p n r 0 away
 
-once-rest : (p : ℕ) (places : List ℕ) → AreOnce (p ∷ places) → AreOnce places
-once-rest p places h j k lj lk e =
-    let same = h (suc j) (suc k) (omega (arith, lj)) (omega (arith, lk)) e in omega (arith, same)
-
-once-avoids : (p : ℕ) (places : List ℕ) → AreOnce (p ∷ places) → Avoids places p
-once-avoids p places h k lt e =
-    let same = h (suc k) 0 (omega (arith, lt)) (omega arith) e in absurd (omega (arith, same))
-
 pub set_ranks-at : (ranks places new : List ℕ) → AreOnce places
     → ((k : ℕ) → k < length places → get_or places k 0 < length ranks) → (k : ℕ) → k < length places
     → k < length new → rank_at (set_ranks ranks places new) (get_or places k 0) ≡ get_or new k 0
@@ -41,10 +33,10 @@ unfolding rank_at
 set_ranks-at ranks [] new once within k lt ln = absurd (omega (arith, lt))
 set_ranks-at ranks (p ∷ places) [] once within k lt ln = absurd (omega (arith, ln))
 set_ranks-at ranks (p ∷ places) (r ∷ new) once within zero lt ln =
-    set_ranks-other (set ranks p r) places new p (once-avoids p places once)
+    set_ranks-other (set ranks p r) places new p (AreOnce-head p places once)
     ∙ get_or-set_same ranks p r 0 (within 0 (omega arith))
 set_ranks-at ranks (p ∷ places) (r ∷ new) once within (suc k) lt ln =
-    set_ranks-at (set ranks p r) places new (once-rest p places once)
+    set_ranks-at (set ranks p r) places new (AreOnce-tail p places once)
     (λ j lj. rw length-set (within (suc j) (omega (arith, lj)))) k (omega (arith, lt))
     (omega (arith, ln))
 

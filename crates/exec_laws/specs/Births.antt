@@ -1,4 +1,5 @@
 -- How a graph has grown: new nodes took unborn ones of a reserve, and new wires follow the graph's.
+use Rattle.chunk_data.specs.Places.{AreOnce}
 use Rattle.exec_laws.specs.Prelude.{Blank, BoxPicture, GrowthFlaw, GrowthForm, IsBlank, MayGrow, Reserve, Spec, SpecForm, Wire, expression, holds_node, no_reserve, spec_form}
 use Rattle.exec_laws.specs.Growths.{Left, form_kind, growth_flaw, has_wrong_end, new_wires, places_for}
 use Rattle.exec_laws.specs.Runs.{IsBorn, box_at}
@@ -101,11 +102,6 @@ TakeBlanks reserves before earlier (b ∷ births) =
     ((past : ℕ) × (b.places ≡ places_for (map form_kind b.growth.specs)
     (blanks_of before earlier r.first_node r.nodes) past))
     × TakeBlanks reserves before (earlier ++ b ∷ []) births
-
--- no number stands twice in the list
-abbrev pub AreOnce : List ℕ → Type 0
-AreOnce xs = (j k : ℕ) → j < length xs → k < length xs
-    → slice_index_or xs j 0 ≡ slice_index_or xs k 0 → j ≡ k
 
 abbrev pub growth_list : Option GrowthForm → List GrowthForm
 growth_list None = []

@@ -24,7 +24,7 @@ pub use Rattle.atomic_table.specs.Table.{Allows, Joins, Seen, Splits, State, Val
 pub use Rattle.atomic_table.proofs.Lists.{at_index, at_set, at_snoc, at_map, drop_at}
 pub use Rattle.core_laws.proofs.Kept.{laws-kept, marks-of, pending-most, sizes-kept, some-pending}
 pub use Rattle.core_laws.proofs.Bits.{EndOf, an-end, end-of, or-more, or-other, flip-lone}
-pub use Rattle.core_laws.proofs.Lists.{at_put, edges-seeing, has-filter, has-last, once-filter, once-last}
+pub use Rattle.core_laws.proofs.Lists.{edges-seeing, has-filter, has-last, once-filter, once-last}
 pub use Rattle.core_laws.proofs.Starts.{start-laws, learned-start, ports-length}
 pub use Rattle.std.specs.VecDeque.{deque_capacity}
 pub use Rattle.atomic_table.specs.declared.shared.Seat.{Seat}

@@ -1,6 +1,5 @@
 -- Rows agree exactly where their keys have one code.
-use Rattle.join_proc.proofs.Imports.{All, All-map, AllByRecursion, AreKeyValues, AreKeyPairs, ColumnType, HasKey, IsKeyPair, IsSeenFor, JoinSpec, KeyPair, Row, agree, codes-agree, first_key_column, key_at, type_at, plain_types_at, left_places, length-map, recursion_from_All, right_places, row_code, same_code, same_row, same_row_is, SeenKeys, List, [], ap, ap₂, arith, length, map, refl, sym, true, ℕ, ◌<◌, ◌∙◌, ◌∷◌, ◌≡◌}
-use Rattle.chunk_data.specs.Values.{plain_type}
+use Rattle.join_proc.proofs.Imports.{All, All-map, AllByRecursion, AreKeyValues, AreKeyPairs, ColumnType, HasKey, IsKeyPair, JoinSpec, KeyPair, Row, agree, codes-agree, key_at, plain_types_at, left_places, recursion_from_All, right_places, row_code, same_code, same_row, same_row_is, List, [], ap, ap₂, arith, length, map, refl, sym, true, ℕ, ◌<◌, ◌∙◌, ◌∷◌, ◌≡◌}
 
 -- rows agree where they have one key
 agree-keys : (pairs : List KeyPair) (l r : Row)
@@ -20,7 +19,7 @@ pair-kinds join h = go join.pairs
         → plain_types_at join.left (left_places pairs)
         ≡ plain_types_at join.right (right_places pairs)
     go [] h = refl
-    go (pair ∷ pairs) h = ap₂ ◌∷◌ (ap plain_type h.0.2) (go pairs h.1)
+    go (pair ∷ pairs) h = ap₂ ◌∷◌ h.0.2 (go pairs h.1)
 
 -- the columns of the pairs are of their sides
 pub left-within : (join : JoinSpec) → AreKeyPairs join

@@ -6,7 +6,7 @@ pub use denote.Enum.Bare.{same_true, true_same}
 pub use Rattle.chunk_data.specs.Names.{Row, Table, append_each, row_at, type_at, value_at, value_cmp}
 pub use Rattle.indexmap.specs.IndexSet.{insert_key}
 pub use Rattle.join_proc.specs.Joinings.{IsJoinPhase, IsJoining, IsNextOfJoin, JoiningView, gathered_right, is_open, join_own, join_unmade, joining_own, view_of, with_end}
-pub use Rattle.join_proc.specs.Joins.{AreFit, AreLinked, AreStarts, IsIndexOf, IsKeyPair, IsStart, JoinsRows, JoinsSome, MovesOn, PairsMore, key_codes, key_places, left_places, no_start, paired, right_places, row_after, rows_to_join, start_rows, starts_at}
+pub use Rattle.join_proc.specs.Joins.{AreFit, AreLinked, AreStarts, IsIndexOf, IsStart, JoinsRows, JoinsSome, MovesOn, PairsMore, key_codes, key_places, left_places, no_start, paired, right_places, row_after, rows_to_join, start_rows, starts_at}
 pub use Rattle.join_proc.specs.declared.join_index.JoinIndex.{JoinIndex}
 pub use Rattle.join_proc.specs.declared.joining.JoinPhase.{JoinPhase}
 pub use Rattle.join_proc.specs.declared.left_rows.LeftRows.{LeftRows}
@@ -14,7 +14,7 @@ pub use Rattle.join_proc.specs.declared.left_rows.PlacePairs.{PlacePairs}
 pub use Rattle.join_proc.specs.declared.left_rows.LeftStart.{LeftStart}
 pub use Rattle.key_codes.proofs.KeyLaws.{codes-agree, same_code_is}
 pub use Rattle.key_codes.specs.Keys.{AreKeyValues, HasKey, IsSeenFor, codes_in, first_key_column, key_at, places_from, plain_types_at, row_code, same_code, with_key}
-pub use Rattle.proc_api.specs.Names.{AreJoined, AreKeyPairs, FitsJoin, Lists, OwnState, chunk_rows, no_lists, side_types}
+pub use Rattle.proc_api.specs.Names.{AreJoined, AreKeyPairs, FitsJoin, IsKeyPair, Lists, OwnState, chunk_rows, no_lists, side_types}
 pub use Rattle.proc_api.specs.Prelude.{JoinSpec, KeyPair, Picture, in_count, input_at, is_in_finished}
 pub use Rattle.proc_shell.proofs.Through.{chunk-elsewhere, chunk-here, makes-nothing, one-more}
 pub use Rattle.proc_shell.specs.Kernels.{AreInputsOver, Begins, Makes, OfferComes, Offers, Takes, with_chunk}

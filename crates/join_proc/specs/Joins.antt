@@ -1,11 +1,11 @@
 -- Where a right side's keys are, and the pairs of rows that a left chunk's rows make with them.
-use Rattle.chunk_data.specs.Names.{Row, Table, append_each, row_at, type_at}
+use Rattle.chunk_data.specs.Names.{Row, Table, append_each, row_at}
 use Rattle.join_proc.specs.declared.join_index.JoinIndex.{JoinIndex}
 use Rattle.join_proc.specs.declared.left_rows.LeftRows.{LeftRows}
 use Rattle.join_proc.specs.declared.left_rows.PlacePairs.{PlacePairs}
 use Rattle.join_proc.specs.declared.left_rows.LeftStart.{LeftStart}
 use Rattle.key_codes.specs.Keys.{HasKey, IsSeenFor, codes_in, places_from, plain_types_at, row_code, same_code, with_key}
-use Rattle.proc_api.specs.Prelude.{ColumnType, JoinSpec, KeyPair}
+use Rattle.proc_api.specs.Prelude.{JoinSpec, KeyPair}
 use Rattle.query_model.specs.Names.{agree, joined_rows}
 use Rattle.std.specs.List.{All, position_or_len}
 use Rattle.std.specs.Prelude.{List, [], cond, drop, filter, flat_map, fold, length, map, max, nat_eq, nat_lt, slice_index_or, slice_set, suc, true, ℕ, ◌++◌, ◌+◌, ◌<◌, ◌∷◌, ◌≡◌, ◌≤◌, ◌⊎◌}
@@ -16,12 +16,6 @@ left_places pairs = map (λ (pair : KeyPair). pair.left) pairs
 
 abbrev pub right_places : List KeyPair → List ℕ
 right_places pairs = map (λ (pair : KeyPair). pair.right) pairs
-
--- the pair has a column of either side, both of one type
-abbrev pub IsKeyPair : (left right : List ColumnType) → KeyPair → Type 0
-IsKeyPair left right pair =
-    (pair.left < length left) × (pair.right < length right)
-    × (type_at left pair.left ≡ type_at right pair.right)
 
 -- ---- the right side
 

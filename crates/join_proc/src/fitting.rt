@@ -1,6 +1,6 @@
 ghost use Rattle.std.specs.Prelude.{◌≡◌, ◌↔◌, IsTrue, IfOk, map};
-ghost use Rattle.proc_api.specs.kinds.HashJoin.{AreKeyPairs, FitsJoin};
-ghost use Rattle.join_proc.specs.Joins.{IsKeyPair, left_places, right_places};
+ghost use Rattle.proc_api.specs.kinds.HashJoin.{AreKeyPairs, FitsJoin, IsKeyPair};
+ghost use Rattle.join_proc.specs.Joins.{left_places, right_places};
 
 use chunk_data::{Chunk, ColumnType, Memory, type_at};
 use query_model::checked::KeyPair;
@@ -22,7 +22,7 @@ fn are_types(types: &[ColumnType], others: &[ColumnType]) -> bool
     types == others
 }
 
-// Whether each pair has a column of either side, both of one type.
+// Whether each pair has a column of either side, both of one type apart from Nullable.
 fn are_key_pairs(join: &JoinSpec) -> bool
     ensures { IsTrue result ↔ AreKeyPairs join.now }
 {
@@ -34,13 +34,13 @@ fn are_key_pairs(join: &JoinSpec) -> bool
         .all(|pair| is_key_pair(pair, left, right))
 }
 
-// Whether the pair has a column of either side, both of one type.
+// Whether the pair has a column of either side, both of one type apart from Nullable.
 fn is_key_pair(pair: &KeyPair, left: &[ColumnType], right: &[ColumnType]) -> bool
     ensures { IsTrue result ↔ IsKeyPair left.now right.now pair.now }
 {
     let l = pair.left as usize;
     let r = pair.right as usize;
-    l < left.len() && r < right.len() && type_at(left, l) == type_at(right, r)
+    l < left.len() && r < right.len() && type_at(left, l).is_alike(type_at(right, r))
 }
 
 /// The columns of the FROM table that must agree.

@@ -1,12 +1,8 @@
 -- Reading lists by index, changing one element, and adding one.
-use Rattle.pipeline_exec.proofs.Words.{Bool, BoxPicture, Cell, CellPicture, Changes, ChangesCell, Err, IfErr, IfOk, List, Ok, Result, TellsNode, ap, at-node, cell_at, cell_picture, cells_of, eq-eqb, false, get_or, get_or-map, get_or-set_other, get_or-set_same, length, length-map, length-set, map-set, ne_eqb, no_cell, refl, rules, set, sym, told_if, true, ℕ, ◌&&◌, ◌+◌, ◌<◌, ◌==◌, ◌∙◌, ◌≡◌}
+use Rattle.pipeline_exec.proofs.Words.{Bool, BoxPicture, Cell, CellPicture, Changes-map_set, ChangesCell, Err, IfErr, IfOk, List, Ok, Result, TellsNode, ap, at-node, cell_at, cell_picture, cells_of, eq-eqb, false, get_or, get_or-map, length, length-map, ne_eqb, no_cell, refl, rules, set, sym, told_if, true, ℕ, ◌&&◌, ◌+◌, ◌<◌, ◌==◌, ◌∙◌, ◌≡◌}
 
 pub one-more : (P : ℕ → Type 0) (k : ℕ) → ((n : ℕ) → n < k → P n) → P k → (n : ℕ) → n < k + 1 → P n
 one-more P k h1 h2 n h3 = search rules
-
-changed-at : {A : Type 0} (past : A) (n : ℕ) (R : A → A → Type 0) (xs : List A) (y : A)
-    → n < length xs → R (get_or xs n past) y → Changes past n R xs (set xs n y)
-changed-at past n R xs y h1 h2 = search (rules, length-set, get_or-set_same, get_or-set_other)
 
 -- ---- cells
 
@@ -29,8 +25,7 @@ pub cell-changed : {P : Type 0} (seen : P → BoxPicture) (R : CellPicture → C
     → R (cell_picture seen x) (cell_picture seen y)
     → ChangesCell n R (cells_of seen cells) (cells_of seen (set cells n y))
 cell-changed seen R cells n x y lt read h =
-    rw map-set (changed-at no_cell n R (cells_of seen cells) (cell_picture seen y)
-    (cells-below seen cells n lt) (rw (cell-read seen cells n x lt read) h))
+    Changes-map_set (cell_picture seen) no_cell n R cells x y lt read h
 
 told-when : (b : Bool) (c : CellPicture)
     → (told_if (b && true) c ≡ told_if b c) × (told_if (b && false) c ≡ c)

@@ -1,6 +1,7 @@
 -- The state of a run, as data: a cell for each node, and the graph's wires and edges.
+use Rattle.chunk_data.specs.Places.{Changes}
 use Rattle.pipeline_exec.specs.Prelude.{Action, Acts, AreEdgesOf, BoxPicture, Cell, CellPicture, DueCall, EdgeState, ExecutorState, Flags, FollowsKept, HasEdge, HasInputWire, HasOutputWire, Input, Inputs, IsBorn, IsGraph, IsPort, IsRunning, IsSound, KeepsBox, KeepsFault, MayCall, NodeFault, NodeMark, Output, Outputs, Port, QuietBut, Reserve, RoundPorts, Running, Scheduled, Side, StaysOrActs, Table, TakesFirstAction, ViewKnows, Wake, Wire, WorkFault, action_port, after_action, after_see, cell_at, edge_at, input_count, is_reserved, is_told, new_edge, new_mark, new_picture, no_cell, output_count, peer, port_edge, reserve_of, told_if, wire_at}
-use Rattle.std.specs.Prelude.{Bool, IfSome, List, None, Option, Some, [], false, length, map, slice_index_or, true, ℕ, ⊤, ◌&&◌, ◌+◌, ◌<◌, ◌==◌, ◌∷◌, ◌≡◌, ◌≢◌, ◌≤◌}
+use Rattle.std.specs.Prelude.{Bool, IfSome, List, None, Option, Some, [], false, length, map, slice_index_or, true, ℕ, ⊤, ◌&&◌, ◌+◌, ◌<◌, ◌==◌, ◌∷◌, ◌≡◌, ◌≤◌}
 use Rattle.proc_api.specs.declared.status.Wake.TheVariants as wake
 use Rattle.exec_laws.specs.declared.edges.DueCall.TheVariants as call
 use Rattle.exec_laws.specs.declared.edges.NodeStatus.TheVariants as node
@@ -40,13 +41,7 @@ board_of seen s = record {
   left = s.left.items;
 }
 
--- one element alone has changed, in this way
-pub record Changes {A : Type 0} (past : A) (n : ℕ) (R : A → A → Type 0)
-    (xs ys : List A) : Type 0 where
-  pub len : length ys ≡ length xs
-  pub here : R (slice_index_or xs n past) (slice_index_or ys n past)
-  pub others : (m : ℕ) → m ≢ n → slice_index_or ys m past ≡ slice_index_or xs m past
-
+-- one cell alone has changed, in this way
 abbrev pub ChangesCell : ℕ → (CellPicture → CellPicture → Type 0) → List CellPicture
     → List CellPicture → Type 0
 ChangesCell n R cells after = Changes no_cell n R cells after

@@ -1,6 +1,6 @@
 -- The columns of a table that a query names are those of the table that its plan reads, and its
 -- checked types are those of the rows that its items make.
-use Rattle.plan_ends.proofs.Imports.{Bool, IfSome, List, None, Option, Some, [], ap, append_assoc, ap₂, arith, bytes_eq, cond, false, filter, flat_map, length, length-append, map, not, option_map, refl, slice_index_or, subst, suc, sym, true, ℕ, ◌++◌, ◌+◌, ◌<◌, ◌==◌, ◌∙◌, ◌∷◌, ◌≡◌, AggCall, All, All-behind, All-cons, All-front, All-head, All-nil, All-tail, AreColumnsFrom, AreKeyPairs, ArePlainItems, BothOrNone, Checked, CheckedJoin, ColumnDecl, ColumnRef, ColumnType, EachWith, Expr, FromColumn, Grouped, Grouping, IsAnalysable, IsChecked, IsCheckedJoin, IsGrouping, IsOfKind, IsPlacedItem, IsShape, IsTypedQuery, Item, ItemKind, Items, Join, KeyPair, Listed, NamePair, OrderKey, Plain, Query, Schema, Shape, SortKey, Star, TableDecl, TableRef, TableUse, unrefused_is_accepted, all_fit, append-nil, are_keys, call_type, calls_of, column_is_of_kind, every_column, expr_is_of_kind, first_name, from_columns, from_types, get_or_at, group_row_types, is_grouped, is_join_pair, is_key_of, is_typed, item_typing, item_names, join_spec, join_tables, key_place, known_type, length-map, list_all, listed, map-append, means, meant_type, none_found, operands_of, output_names, output_types, pair_of, place_in, place_of, refusal_of, same_type, sort_key, source_types, star_name, table_columns, tells_each, type_of, types_of, ungrouped_names, use_of, used_types, join_columns, pairs_fit, and_parts}
+use Rattle.plan_ends.proofs.Imports.{Bool, IfSome, List, None, Option, Some, [], ap, append_assoc, ap₂, arith, bytes_eq, cond, false, filter, flat_map, length, length-append, map, not, option_map, refl, slice_index_or, subst, suc, sym, true, ℕ, ◌++◌, ◌+◌, ◌<◌, ◌==◌, ◌∙◌, ◌∷◌, ◌≡◌, AggCall, All, All-behind, All-cons, All-front, All-head, All-nil, All-tail, AreColumnsFrom, AreKeyPairs, ArePlainItems, BothOrNone, Checked, CheckedJoin, ColumnDecl, ColumnRef, ColumnType, EachWith, Expr, FromColumn, Grouped, Grouping, IsAnalysable, IsChecked, IsCheckedJoin, IsKeyPair, IsGrouping, IsOfKind, IsPlacedItem, IsShape, IsTypedQuery, Item, ItemKind, Items, Join, Listed, NamePair, OrderKey, Plain, Query, Schema, Shape, SortKey, Star, TableDecl, TableRef, TableUse, unrefused_is_accepted, all_fit, append-nil, are_keys, call_type, calls_of, column_is_of_kind, every_column, expr_is_of_kind, first_name, from_columns, from_types, get_or_at, group_row_types, is_grouped, is_join_pair, is_key_of, is_typed, item_typing, item_names, join_spec, join_tables, key_place, known_type, length-map, list_all, listed, map-append, means, meant_type, none_found, operands_of, output_names, output_types, pair_of, place_in, place_of, refusal_of, same_plain-is, sort_key, source_types, star_name, table_columns, tells_each, type_of, types_of, ungrouped_names, use_of, used_types, join_columns, pairs_fit, and_parts}
 use Rattle.chunk_data.specs.declared.typed_value.ColumnType.TheVariants as column
 use Rattle.query_model.specs.declared.query.ExprOf.TheVariants as expr
 use Rattle.query_model.specs.declared.query.ItemKind.TheVariants as kind
@@ -95,29 +95,19 @@ meant-at : (columns : List FromColumn) (c : ColumnRef) (t : ColumnType)
 unfolding type_of
 meant-at columns c t e = grind (arith, IsOfKind, column_is_of_kind c columns)
 
-same-types : (a b : ColumnType) → same_type a b ≡ true → a ≡ b
-same-types a b e = grind arith
-
--- a pair of places in two lists of columns that have one type
-abbrev IsPair : List ColumnType → List ColumnType → (left right : ℕ) → Type 0
-IsPair ls rs left right = (left < length ls) × (right < length rs)
-    × (slice_index_or ls left column.Text ≡ slice_index_or rs right column.Text)
-
 -- a pair fits, whichever way it is written
 pair-is : (left right : List FromColumn) (p : NamePair) → is_join_pair left right p ≡ true
-    → IsPair (types_of left) (types_of right) (pair_of left right p).left
-    (pair_of left right p).right
-pair-is left right p h = search (arith, meant-at, same-types)
+    → IsKeyPair (types_of left) (types_of right) (pair_of left right p)
+pair-is left right p h = search (arith, meant-at, same_plain-is)
 
 pairs-fit : (left right : List FromColumn) (pairs : List NamePair)
     → list_all (is_join_pair left right) pairs ≡ true
-    → All (λ (p : KeyPair). IsPair (types_of left) (types_of right) p.left p.right)
-    (map (pair_of left right) pairs)
+    → All (IsKeyPair (types_of left) (types_of right)) (map (pair_of left right) pairs)
 pairs-fit left right [] e = search (arith, All-nil)
 pairs-fit left right (p ∷ pairs) e =
     let each = and_parts (is_join_pair left right p) (list_all (is_join_pair left right) pairs) e in
-    All-cons (λ (p : KeyPair). IsPair (types_of left) (types_of right) p.left p.right)
-    (pair_of left right p) (map (pair_of left right) pairs) (pair-is left right p each.0)
+    All-cons (IsKeyPair (types_of left) (types_of right)) (pair_of left right p)
+    (map (pair_of left right) pairs) (pair-is left right p each.0)
     (pairs-fit left right pairs each.1)
 
 -- A query that is typed by the types of the rows that it reads of these tables. Its checked types

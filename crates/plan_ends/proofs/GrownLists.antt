@@ -1,6 +1,6 @@
 -- A graph of lawful boxes grows by its lists of parts alone, each by the sources of its parts.
 use Rattle.std.proofs.lemmas.Grind.{common_steps}
-use Rattle.plan_ends.proofs.Imports.{Bool, List, None, Option, Some, [], ap, ap₂, arith, cond, count_by, false, flat_map, get_or, inl, inr, is_some, length, map, refl, subst, suc, sum_by, sym, true, zero, ℕ, ◌++◌, ◌+◌, ◌<◌, ◌==◌, ◌∙◌, ◌∷◌, ◌≡◌, ◌⊎◌, All, All-from_recursion, AllByRecursion, ArePartBytes, BoxPicture, Contains, Contains-append_right, DraftNode, Files, GrowthForm, PartSpec, Spec, Wire, both_ways, box_at, cases_lt, get_or_default, get_or_past, input_count, no_wire, output_count, part_spec, paths_in, sum_by-append, sum_by-cons, unboxed, wire_at, grows-lawfully, AreAllBorn, AreOnce, Birth, HasForm, IsBirth, all_places, births_of, born_wires, form_at, growth_list, growths_of, kept_growths, new_wires, ArePortsOf, IsListGrowth, MayGrow, SpecForm, list_growth, listed_edges, listed_part, listed_parts, grown_inputs, is_me, Edge, Reserve, eqb-true, All-contains_itself, All-filter, filter_passes, length-map, nil_from_length, HasGrownByLists, HasListed, IsListedNode, IsUngrown, reading_in, GrowsLawfully}
+use Rattle.plan_ends.proofs.Imports.{Bool, List, None, Option, Some, [], ap, ap₂, arith, cond, count_by, count_by-none, count_by-once, false, false_from_ne_true, flat_map, get_or, inl, inr, is_some, length, map, refl, subst, suc, sum_by, sym, true, ℕ, ◌++◌, ◌+◌, ◌<◌, ◌==◌, ◌∙◌, ◌∷◌, ◌≡◌, ◌⊎◌, All, All-from_recursion, AllByRecursion, ArePartBytes, BoxPicture, Contains, Contains-append_right, DraftNode, Files, GrowthForm, PartSpec, Spec, Wire, both_ways, box_at, cases_lt, get_or_default, get_or_past, input_count, no_wire, output_count, part_spec, paths_in, sum_by-append, sum_by-cons, unboxed, wire_at, grows-lawfully, AreAllBorn, Birth, HasForm, IsBirth, all_places, births_of, born_wires, form_at, growth_list, growths_of, kept_growths, new_wires, ArePortsOf, IsListGrowth, MayGrow, SpecForm, list_growth, listed_edges, listed_part, listed_parts, grown_inputs, is_me, Edge, Reserve, eqb-true, All-contains_itself, All-filter, filter_passes, length-map, nil_from_length, HasGrownByLists, HasListed, IsListedNode, IsUngrown, reading_in, GrowsLawfully}
 use Rattle.query_model.specs.declared.processor_spec.Spec.TheVariants as spec
 
 -- ---- the wires of a list's growth
@@ -109,32 +109,6 @@ first-birth n births b rest e =
           (All-contains_itself births)) 0 b (omega arith),
       eqb-true _ _ (subst (All (λ c. p c ≡ true)) e (filter_passes p births) 0 b (omega arith)),
     )
-
--- ---- counts of a number in a list
-
-count-none : (xs : List ℕ) (m : ℕ) → ((j : ℕ) → j < length xs → get_or xs j 0 ≡ m → ⊥)
-    → count_by (λ q. q == m) xs ≡ 0
-count-none [] m h = refl
-count-none (x ∷ xs) m h =
-    let rest = count-none xs m (λ j lt is. h (suc j) (omega (arith, lt)) is) in
-    let here = h 0 in grind (arith, sum_by-cons)
-
-count-once : (xs : List ℕ) (m : ℕ) → AreOnce xs → (j : ℕ) → j < length xs → get_or xs j 0 ≡ m
-    → count_by (λ q. q == m) xs ≡ 1
-count-once [] m once j lt is = absurd (omega (arith, lt))
-count-once (x ∷ xs) m once zero lt is =
-    let rest = count-none xs m (λ j within same.
-    let none = once 0 (suc j) (omega arith) (omega (arith, within)) (is ∙ sym same) in
-    absurd (omega (arith, none))) in
-    let here : (x == m) ≡ true = grind (arith, is) in
-    grind (arith, sum_by-cons (λ (q : ℕ). cond (q == m) 1 0) x xs)
-count-once (x ∷ xs) m once (suc j) lt is =
-    let rest = count-once xs m (λ i k a b e.
-    let same = once (suc i) (suc k) (omega (arith, a)) (omega (arith, b)) e in
-    omega (arith, same)) j (omega (arith, lt)) is in
-    let other : x ≡ m → ⊥ = λ e. let none = once 0 (suc j) (omega arith) lt (e ∙ sym is) in
-    omega (arith, none) in
-    grind (arith, sum_by-cons (λ (q : ℕ). cond (q == m) 1 0) x xs)
 
 -- ---- lists by index
 
@@ -254,9 +228,9 @@ module _ (files : Files) (nodes : List DraftNode) (wires : List Wire) (reserves 
           omega (
             arith,
             sum_by-append (λ (q : ℕ). cond (q == n) 1 0) b.places (all_places bs),
-            count-none b.places n (λ k within is.
+            count_by-none 0 (λ q. q == n) b.places (λ k within. false_from_ne_true _ (λ is.
                 let behind = g.behind b.expander (get_or b.places k 0) (h.0.reserved k within) in
-                absurd (omega (arith, behind.0, is, lt))),
+                absurd (omega (arith, behind.0, eqb-true _ _ is, lt)))),
             none-placed bs h.1,
           )
 
@@ -341,7 +315,7 @@ module _ (files : Files) (nodes : List DraftNode) (wires : List Wire) (reserves 
           arith,
           sum_by-append (λ (v : Wire). cond (v.from == q) 1 0) wires new,
           outs-born births list-births q,
-          count-once (all_places births) q g.are.once there.0 there.1
+          count_by-once (all_places births) q g.are.once there.0 there.1
               (get_or_default (all_places births) there.0 0 q there.1 ∙ there.2),
           g.outputs_within q past,
         );

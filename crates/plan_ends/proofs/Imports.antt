@@ -1,6 +1,8 @@
 -- The names from outside that this crate's proofs use, in one place.
+pub use Rattle.chunk_data.proofs.Laws.{same_plain-is}
+pub use Rattle.chunk_data.proofs.Places.{count_by-none, count_by-once}
 pub use Rattle.exec_laws.proofs.BirthLaws.{grows-lawfully}
-pub use Rattle.exec_laws.specs.Births.{AreAllBorn, AreOnce, Birth, HasForm, IsBirth, all_places, births_of, born_wires, form_at, growth_list, growths_of, kept_growths}
+pub use Rattle.exec_laws.specs.Births.{AreAllBorn, Birth, HasForm, IsBirth, all_places, births_of, born_wires, form_at, growth_list, growths_of, kept_growths}
 pub use Rattle.exec_laws.specs.Growths.{new_wires}
 pub use Rattle.plan_ends.specs.Ended.{BoxGives, HasEnded, HasFullCount, HasGrownByLists, HasListed, HasPulled, IsListedNode, IsOrdinary, IsReady, IsStep, KeepsContract, KindGives, KnownPorts, SourceHas, chunk_types, in_stream, is_valid_list, list_in, listed_sources, out_stream, part_in, part_of, parts_of_files, pulled_since, reading_in, sources_of_files, stream_pulled_at, stream_pushed_at, used_part}
 pub use Rattle.proc_api.specs.SpecContracts.{IsUngrown}
@@ -31,7 +33,7 @@ pub use Rattle.plan_meaning.specs.Prelude.{AllZip, Any, Contains, is_lt, spec_gr
 pub use Rattle.proc_api.proofs.Keeping.{rows-append}
 pub use Rattle.proc_api.proofs.KeptFlags.{may-be-input, past-open}
 pub use Rattle.proc_api.proofs.Orders.{every-append, every-contains, every-front, every-none, every-turned, every-weaker, order-cross, order-from_sorted, order-front, rows-ordered, sorted-from_order}
-pub use Rattle.proc_api.specs.Names.{AllFit, AreCounts, AreInputsSorted, AreKeyPairs, AreMerged, ArePartBytes, ArePortsOf, AreResized, BoxPicture, FitsInput, FitsOrder, GrowthForm, HasReadEnough, IsBeforeNone, IsListGrowth, IsOver, IsPulled, IsReadUp, IsSortOf, IsSourceKind, Keeps, KeepsMade, KeepsRows, Lists, MakesTypes, MayGrow, NotesEnd, SpecForm, WorkState, argument_types, chunk_rows, head_at, head_rows, input_count, is_of, kept_input, kept_output, kept_outputs, last_count, list_growth, listed_edges, listed_part, listed_parts, no_box, no_table, no_wire, output_count, own_of, partial_types, same_kind, spec_form, unboxed, unworked_at, IsWorkOf}
+pub use Rattle.proc_api.specs.Names.{AllFit, AreCounts, AreInputsSorted, AreKeyPairs, AreMerged, ArePartBytes, ArePortsOf, AreResized, BoxPicture, FitsInput, FitsOrder, GrowthForm, HasReadEnough, IsBeforeNone, IsKeyPair, IsListGrowth, IsOver, IsPulled, IsReadUp, IsSortOf, IsSourceKind, Keeps, KeepsMade, KeepsRows, Lists, MakesTypes, MayGrow, NotesEnd, SpecForm, WorkState, argument_types, chunk_rows, head_at, head_rows, input_count, is_of, kept_input, kept_output, kept_outputs, last_count, list_growth, listed_edges, listed_part, listed_parts, no_box, no_table, no_wire, output_count, own_of, partial_types, same_kind, spec_form, unboxed, unworked_at, IsWorkOf}
 pub use Rattle.proc_api.specs.Prelude.{BadPlace}
 pub use Rattle.query_model.proofs.Accepted.{all_fit, are_keys, none_found, tells_each, unrefused_is_accepted}
 pub use Rattle.query_model.proofs.Imports.{All, All-append, All-cons, All-head, All-nil, All-tail, AllByRecursion, ColumnType, IsPermutation-append_left, IsPermutation-refl, IsPermutation-trans, Row, length_permutation, SortKey, Table, flat_map-append, list_all, list_any, means, row_cmp, ungrouped_names, values_at, ⊤}
@@ -40,7 +42,7 @@ pub use Rattle.query_model.proofs.TypedQueries.{IsOfKind, IsTypeOf, call_is_of_k
 pub use Rattle.query_model.specs.Database.{IsListDeclared, IsListUsed, IsValidList, bad_line_in, column_types, part_paths, paths_in, paths_unless}
 pub use Rattle.query_model.specs.ListFiles.{is_path, list_bad_line, list_paths}
 unfoldable pub use Rattle.query_model.specs.ListFiles.{bad_line, lines_from}
-pub use Rattle.query_model.specs.Names.{AreColumnsFrom, ArePicks, ArePlainItems, BothOrNone, CanBePicked, Cond, Database, EachWith, Expr, Files, FromColumn, HasItsArgument, IsAnalysable, IsAnswer, IsChecked, IsCheckedJoin, IsGrouping, IsItem, IsPick, IsPlacedCall, IsPlacedItem, IsShape, IsTypedCall, IsTypedCond, IsTypedFilter, IsTypedQuery, IsTypedShape, IsValidPart, IsValidUsed, UsedPart, agg_typing, call_type, calls_of, columns_if, database, declared_table, file_bytes, filtered_rows, first_name, flow, from_columns, from_types, group_types as group_row_types, groups_tested, having_need, holds, if_declared, if_filtered, if_grouped, if_joined, if_limited, if_ordered, if_plain, if_unordered, is_grouped, is_join_pair, is_key_of, is_typed, item_calls, item_columns, item_typing, item_names, item_row, join_tables, join_use, joined_rows, joined_table, joins, key_place, kind_of, known_typing, known_type, limited, list_sources_need, listed, meant, meant_type, query_boxes, numbered_parts, numbers, operands_of, output_names, output_rows, output_types, pair_of, part_rows, part_sources_need, parts_declared, parts_used, place_in, place_of, rows_in, rows_joined, rows_tested, rows_where, same_column, same_known_type, same_type, selected_rows, sort_key, sorts_need, source_rows, source_table, star_name, table_columns, table_need, types_of, use_of, used_table, used_tables, join_columns, pairs_fit}
+pub use Rattle.query_model.specs.Names.{AreColumnsFrom, ArePicks, ArePlainItems, BothOrNone, CanBePicked, Cond, Database, EachWith, Expr, Files, FromColumn, HasItsArgument, IsAnalysable, IsAnswer, IsChecked, IsCheckedJoin, IsGrouping, IsItem, IsPick, IsPlacedCall, IsPlacedItem, IsShape, IsTypedCall, IsTypedCond, IsTypedFilter, IsTypedQuery, IsTypedShape, IsValidPart, IsValidUsed, UsedPart, agg_typing, call_type, calls_of, columns_if, database, declared_table, file_bytes, filtered_rows, first_name, flow, from_columns, from_types, group_types as group_row_types, groups_tested, having_need, holds, if_declared, if_filtered, if_grouped, if_joined, if_limited, if_ordered, if_plain, if_unordered, is_grouped, is_join_pair, is_key_of, is_typed, item_calls, item_columns, item_typing, item_names, item_row, join_tables, join_use, joined_rows, joined_table, joins, key_place, kind_of, known_typing, known_type, limited, list_sources_need, listed, meant, meant_type, query_boxes, numbered_parts, numbers, operands_of, output_names, output_rows, output_types, pair_of, part_rows, part_sources_need, parts_declared, parts_used, place_in, place_of, rows_in, rows_joined, rows_tested, rows_where, same_column, same_known_type, selected_rows, sort_key, sorts_need, source_rows, source_table, star_name, table_columns, table_need, types_of, use_of, used_table, used_tables, join_columns, pairs_fit}
 pub use Rattle.query_model.specs.Typing.{IsTypedArgument}
 pub use Rattle.query_model.specs.declared.query.ColumnRef.{ColumnRef}
 pub use Rattle.query_model.specs.declared.query.Item.{Item}

@@ -1,10 +1,9 @@
 -- Laws of loading and unloading boxes one after another.
 use Rattle.std.proofs.Common.{◌≡◌, ℕ, ◌+◌, ◌<◌, true, false, List, [], ◌∷◌, ◌++◌, map, length, length-append, get_or, set, drop, refl, ap, subst, ◌∙◌, sym, arith, inl, inr}
-use Rattle.plan_run.proofs.Imports.{All, All-from_get_or, All-get_or, All-head, All-tail, AreStarting, AreStill, GraphForm, IsStill, KeepsBehind, Kind, LoadsFirst, OnlyBox, Spec, StartsAs, UnloadsFirst, append_assoc, box_at, cases_eq, cases_lt, drop-drop, ext_get_or, get_or-drop, get_or-map, get_or_append_left, get_or_default, is_reserved, kind_of, kinds_in, kinds_of, kinds_taken, length-map, one-more, spec_at}
+use Rattle.plan_run.proofs.Imports.{Changes, Changes-map_set, All, All-from_get_or, All-get_or, All-head, All-tail, AreStarting, AreStill, GraphForm, IsStill, KeepsBehind, Kind, LoadsFirst, Spec, StartsAs, UnloadsFirst, append_assoc, box_at, cases_eq, cases_lt, drop-drop, ext_get_or, get_or-drop, get_or-map, get_or_append_left, get_or_default, is_reserved, kind_of, kinds_in, kinds_of, kinds_taken, length-map, one-more, spec_at}
 use Rattle.query_model.specs.declared.processor_spec.Kind.TheVariants as kind
 use Rattle.query_model.specs.declared.processor_spec.Spec.TheVariants as spec
 use Rattle.proc_api.specs.Names.{BoxPicture, no_box, IsBlank, Loads, Unloads}
-use Rattle.plan_run.proofs.OneBox.{box-read, box-set, only-box}
 
 pub still : (p : BoxPicture) → IsStill p p
 still p = record {
@@ -28,33 +27,35 @@ at-all P boxes n lt all = All-get_or P boxes n no_box lt all
 -- ---- loading
 
 pub one-loaded : (k : ℕ) (specs : List Spec) (before mid after : List BoxPicture) (s : Spec)
-    → LoadsFirst k specs before mid → OnlyBox k mid after → s ≡ spec_at specs k
-    → Loads (box_at mid k) s (box_at after k) → LoadsFirst (k + 1) specs before after
-one-loaded k specs before mid after s f only here loads = record {
-  count = only.len ∙ f.count;
+    → LoadsFirst k specs before mid → Changes no_box k (λ p q. Loads p s q) mid after
+    → s ≡ spec_at specs k → LoadsFirst (k + 1) specs before after
+unfolding box_at
+one-loaded k specs before mid after s f next here = record {
+  count = next.len ∙ f.count;
   loaded = one-more (λ n. Loads (box_at before n) (spec_at specs n) (box_at after n)) k
       (λ n lt. subst (Loads (box_at before n) (spec_at specs n))
-      (sym (only.others n (λ e. omega (arith, lt, e)))) (f.loaded n lt))
+      (sym (next.others n (λ e. omega (arith, lt, e)))) (f.loaded n lt))
       (subst (λ p. Loads p (spec_at specs k) (box_at after k)) (f.others k (omega arith))
-      (subst (λ t. Loads (box_at mid k) t (box_at after k)) here loads));
-  others = λ n le. only.others n (λ e. omega (arith, le, e)) ∙ f.others n (omega (arith, le));
+      (subst (λ t. Loads (box_at mid k) t (box_at after k)) here next.here));
+  others = λ n le. next.others n (λ e. omega (arith, le, e)) ∙ f.others n (omega (arith, le));
 }
 
 -- the next box was refused, and is as it was
 pub none-more : (k : ℕ) (specs : List Spec) (before mid after : List BoxPicture)
-    → LoadsFirst k specs before mid → OnlyBox k mid after → box_at after k ≡ box_at mid k
+    → LoadsFirst k specs before mid → Changes no_box k (λ p q. q ≡ p) mid after
     → LoadsFirst k specs before after
-none-more k specs before mid after f only here = record {
-  count = only.len ∙ f.count;
+unfolding box_at
+none-more k specs before mid after f next = record {
+  count = next.len ∙ f.count;
   loaded = λ n lt. subst (Loads (box_at before n) (spec_at specs n))
-      (sym (only.others n (λ e. omega (arith, lt, e)))) (f.loaded n lt);
+      (sym (next.others n (λ e. omega (arith, lt, e)))) (f.loaded n lt);
   others = λ n le. same n ∙ f.others n le;
 }
   where
     same : (n : ℕ) → box_at after n ≡ box_at mid n
     same n = elim (cases_eq n k) [
-      | inl e ↦ subst (λ m. box_at after m ≡ box_at mid m) (sym e) here
-      | inr ne ↦ only.others n ne
+      | inl e ↦ subst (λ m. box_at after m ≡ box_at mid m) (sym e) next.here
+      | inr ne ↦ next.others n ne
     ]
 
 pub loads-still : (k : ℕ) (specs : List Spec) (before after : List BoxPicture)
@@ -110,15 +111,15 @@ none-unloaded boxes = record {
 }
 
 pub one-unloaded : (k : ℕ) (before mid after : List BoxPicture) → UnloadsFirst k before mid
-    → OnlyBox k mid after → Unloads (box_at mid k) (box_at after k)
-    → UnloadsFirst (k + 1) before after
-one-unloaded k before mid after f only unloads = record {
-  count = only.len ∙ f.count;
+    → Changes no_box k Unloads mid after → UnloadsFirst (k + 1) before after
+unfolding box_at
+one-unloaded k before mid after f next = record {
+  count = next.len ∙ f.count;
   unloaded = one-more (λ n. Unloads (box_at before n) (box_at after n)) k
-      (λ n lt. subst (Unloads (box_at before n)) (sym (only.others n (λ e. omega (arith, lt, e))))
+      (λ n lt. subst (Unloads (box_at before n)) (sym (next.others n (λ e. omega (arith, lt, e))))
       (f.unloaded n lt))
-      (subst (λ p. Unloads p (box_at after k)) (f.others k (omega arith)) unloads);
-  others = λ n le. only.others n (λ e. omega (arith, le, e)) ∙ f.others n (omega (arith, le));
+      (subst (λ p. Unloads p (box_at after k)) (f.others k (omega arith)) next.here);
+  others = λ n le. next.others n (λ e. omega (arith, le, e)) ∙ f.others n (omega (arith, le));
 }
 
 pub unloaded-blank : (k : ℕ) (before after : List BoxPicture) → length before ≡ k
@@ -216,16 +217,16 @@ one-over rack (x ∷ boxes) rack' boxes' b read lt r e = ap (λ l. l ++ boxes') 
 -- one box alone was called, and is still the same
 pub still-at : {A : Type 0} (f : A → BoxPicture) (xs : List A) (n : ℕ) (x y : A) → n < length xs
     → x ≡ get_or xs n x → IsStill (f x) (f y) → AreStill (map f xs) (map f (set xs n y))
+unfolding box_at
 still-at f xs n x y lt read s =
-    let only : OnlyBox n (map f xs) (map f (set xs n y)) = only-box f xs n y in
+    let next : Changes no_box n IsStill (map f xs) (map f (set xs n y)) =
+    Changes-map_set f no_box n IsStill xs x y lt read s in
     record {
-      count = only.len;
+      count = next.len;
       each = λ m _. elim (cases_eq m n) [
         | inl e ↦ subst (λ k. IsStill (box_at (map f xs) k) (box_at (map f (set xs n y)) k)) (sym e)
-            (subst (λ p. IsStill p (box_at (map f (set xs n y)) n))
-            (sym (box-read f xs n x lt read)) (subst (IsStill (f x)) (sym (box-set f xs n y lt))
-            s))
-        | inr ne ↦ subst (IsStill (box_at (map f xs) m)) (sym (only.others m ne))
+            next.here
+        | inr ne ↦ subst (IsStill (box_at (map f xs) m)) (sym (next.others m ne))
             (still (box_at (map f xs) m))
       ];
     }

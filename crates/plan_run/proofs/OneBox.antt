@@ -1,6 +1,6 @@
--- Reading a list of boxes by index, and changing one of them.
-use Rattle.std.proofs.Common.{◌≡◌, ℕ, ◌<◌, zero, suc, List, [], ◌∷◌, length, map, get_or, set, refl, sym, ap, subst, ◌∙◌}
-use Rattle.plan_run.proofs.Imports.{OnlyBox, box_at, get_or-map, get_or-set_other, get_or-set_same, length-map, length-set}
+-- Reading a list of boxes by index, and changing one of them by a call that may fail.
+use Rattle.std.proofs.Common.{◌≡◌, ℕ, ◌<◌, List, length, map, get_or, set, sym, ap, ◌∙◌, Result, Ok, Err, OnOk, OnErr}
+use Rattle.plan_run.proofs.Imports.{Changes, Changes-map_set, box_at, get_or-map}
 use Rattle.proc_api.specs.Boxes.{BoxPicture, no_box}
 
 pub box-read : {A : Type 0} (f : A → BoxPicture) (xs : List A) (n : ℕ) (x : A) → n < length xs
@@ -8,26 +8,14 @@ pub box-read : {A : Type 0} (f : A → BoxPicture) (xs : List A) (n : ℕ) (x : 
 unfolding box_at
 box-read f xs n x lt e = get_or-map f xs n x no_box lt ∙ ap f (sym e)
 
-map-set : {A : Type 0} (f : A → BoxPicture) (xs : List A) (n : ℕ) (y : A)
-    → map f (set xs n y) ≡ set (map f xs) n (f y)
-map-set f [] n y = refl
-map-set f (x ∷ xs) zero y = refl
-map-set f (x ∷ xs) (suc n) y = ap (λ r. f x ∷ r) (map-set f xs n y)
+module _ {A X E : Type 0} (f : A → BoxPicture) (n : ℕ) (R : BoxPicture → BoxPicture → Type 0)
+    (xs : List A) (x y : A) (lt : n < length xs) (read : x ≡ get_or xs n x) where
+  pub changes-if-ok : (r : Result X E) → OnOk r (R (f x) (f y))
+      → OnOk r (Changes no_box n R (map f xs) (map f (set xs n y)))
+  changes-if-ok (Ok v) h = Changes-map_set f no_box n R xs x y lt read h
+  changes-if-ok (Err e) h = tt
 
-pub map-length : {A : Type 0} (f : A → BoxPicture) (xs : List A) → length (map f xs) ≡ length xs
-map-length f xs = rw length-map refl
-
-pub box-set : {A : Type 0} (f : A → BoxPicture) (xs : List A) (n : ℕ) (y : A) → n < length xs
-    → box_at (map f (set xs n y)) n ≡ f y
-unfolding box_at
-box-set f xs n y lt = ap (λ l. get_or l n no_box) (map-set f xs n y) ∙ get_or-set_same (map f xs) n
-    (f y) no_box (subst (λ k. n < k) (sym (map-length f xs)) lt)
-
-pub only-box : {A : Type 0} (f : A → BoxPicture) (xs : List A) (n : ℕ) (y : A)
-    → OnlyBox n (map f xs) (map f (set xs n y))
-unfolding box_at
-only-box f xs n y = record {
-  len = ap length (map-set f xs n y) ∙ length-set (map f xs) n (f y);
-  others = λ m ne. ap (λ l. get_or l m no_box) (map-set f xs n y) ∙ get_or-set_other (map f xs) n m
-      (f y) no_box ne;
-}
+  pub changes-if-err : (r : Result X E) → OnErr r (R (f x) (f y))
+      → OnErr r (Changes no_box n R (map f xs) (map f (set xs n y)))
+  changes-if-err (Ok v) h = tt
+  changes-if-err (Err e) h = Changes-map_set f no_box n R xs x y lt read h

@@ -1,6 +1,6 @@
 -- Laws of what is taken from a rack, and what is left.
 use Rattle.std.proofs.Common.{◌≡◌, ℕ, zero, suc, ◌+◌, ◌<◌, ◌≤◌, Bool, true, false, cond, List, [], ◌∷◌, ◌++◌, map, take, length, length-append, get_or, refl, ap, subst, ◌∙◌, sym, arith}
-use Rattle.plan_run.proofs.Imports.{All, All-cons, All-head, All-nil, All-tail, BoxPicture, HasStock, Kind, Spec, TakesOut, count_by, eq-eqb, eqb-true, first_box_of, get_or-append-add, get_or-map, get_or_append_left, get_or_default, is_of, kind_of, kind_place, kinds_in, kinds_of, kinds_taken, left_after, length-map, map_push, same_kind, sum_by-cons, take_more, taken_for, without_first_box}
+use Rattle.plan_run.proofs.Imports.{All, All-cons, All-head, All-nil, All-tail, BoxPicture, HasStock, Kind, Spec, TakesOut, count_by, count_by-cons, eq-eqb, eqb-true, first_box_of, get_or-append-add, get_or-map, get_or_append_left, get_or_default, is_of, kind_of, kind_place, kinds_in, kinds_of, kinds_taken, left_after, length-map, map_push, same_kind, take_more, taken_for, without_first_box}
 use Rattle.proc_api.proofs.RackLaws.{kind-at}
 use Rattle.proc_api.specs.KindRows.{all_kinds}
 use Rattle.query_model.specs.declared.processor_spec.Kind.TheVariants as kind
@@ -14,10 +14,6 @@ same-kind a b e =
     ∙ kind-at b a
 
 -- ---- counts
-
-count_by-cons : {A : Type 0} (test : A → Bool) (x : A) (xs : List A)
-    → count_by test (x ∷ xs) ≡ cond (test x) 1 0 + count_by test xs
-count_by-cons test x xs = sum_by-cons (λ y. cond (test y) 1 0) x xs
 
 none-first : (t : Bool) (n : ℕ) → cond t 1 0 + n ≡ 0 → (t ≡ false) × (n ≡ 0)
 none-first true n e = absurd (omega (arith, e))

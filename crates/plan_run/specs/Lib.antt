@@ -1,4 +1,3 @@
 pub mod Stock
-pub mod OneBox
 pub mod Plans
 pub mod Steps

@@ -1,9 +1,9 @@
 ghost use Rattle.std.specs.Prelude.{◌≡◌, ℕ, ◌+◌, ◌<◌, ◌≤◌, ◌++◌, ◌∷◌, [], length, map, count_by, vec_capacity, OnOk, OnErr};
 ghost use Rattle.std.specs.List.{All};
+ghost use Rattle.chunk_data.specs.Places.{Changes};
 ghost use Rattle.query_model.specs.Kinds.{kind_of};
-ghost use Rattle.proc_api.specs.Names.{IsBlank, Loads, Unloads, is_of};
+ghost use Rattle.proc_api.specs.Names.{IsBlank, Loads, Unloads, is_of, no_box};
 ghost use Rattle.exec_laws.specs.Runs.{box_at};
-ghost use Rattle.plan_run.specs.OneBox.{OnlyBox};
 ghost use Rattle.plan_run.specs.Plans.{kinds_taken, spec_at};
 ghost use Rattle.plan_run.specs.Stock.{first_box_of, without_first_box, taken_for, left_after, HasStock};
 ghost use Rattle.plan_run.specs.Steps.{AreStill, GivesUnloaded, LoadsFirst, UnloadsFirst};
@@ -85,12 +85,10 @@ fn load_at(boxes: &mut Vec<Box<dyn Processor + Send>>, i: usize, spec: Spec) -> 
     requires in_range { i < length boxes.old.items }
     requires blank { IsBlank (box_at (map (λ b. seen b) boxes.old.items) i) }
     requires of_kind { kind_of spec ≡ (box_at (map (λ b. seen b) boxes.old.items) i).kind }
-    ensures only { OnlyBox i (map (λ b. seen b) boxes.old.items)
-        (map (λ b. seen b) boxes.new.items) }
-    ensures ok { OnOk result (Loads (box_at (map (λ b. seen b) boxes.old.items) i) spec
-        (box_at (map (λ b. seen b) boxes.new.items) i)) }
-    ensures unchanged { OnErr result (box_at (map (λ b. seen b) boxes.new.items) i
-        ≡ box_at (map (λ b. seen b) boxes.old.items) i) }
+    ensures ok { OnOk result (Changes no_box i (λ p q. Loads p spec q)
+        (map (λ b. seen b) boxes.old.items) (map (λ b. seen b) boxes.new.items)) }
+    ensures unchanged { OnErr result (Changes no_box i (λ p q. q ≡ p)
+        (map (λ b. seen b) boxes.old.items) (map (λ b. seen b) boxes.new.items)) }
 {
     load_box(&mut boxes[i], spec)
 }
@@ -134,10 +132,8 @@ pub fn unload_boxes(boxes: &mut Vec<Box<dyn Processor + Send>>)
 
 fn unload_at(boxes: &mut Vec<Box<dyn Processor + Send>>, i: usize)
     requires { i < length boxes.old.items }
-    ensures only { OnlyBox i (map (λ b. seen b) boxes.old.items)
+    ensures { Changes no_box i Unloads (map (λ b. seen b) boxes.old.items)
         (map (λ b. seen b) boxes.new.items) }
-    ensures unloaded { Unloads (box_at (map (λ b. seen b) boxes.old.items) i)
-        (box_at (map (λ b. seen b) boxes.new.items) i) }
 {
     unload_box(&mut boxes[i]);
 }

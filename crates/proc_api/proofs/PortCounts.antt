@@ -14,8 +14,8 @@ module _ (node port : Wire → ℕ) where
   port_count wires n = count_by (λ (w : Wire). node w == n) wires
 
   -- two edges at one port are one edge
-  abbrev pub AreOnce : List Wire → Type 0
-  AreOnce wires = (e f : ℕ) → e < length wires → f < length wires
+  abbrev pub ArePortsOnce : List Wire → Type 0
+  ArePortsOnce wires = (e f : ℕ) → e < length wires → f < length wires
       → node (wire_at wires e) ≡ node (wire_at wires f)
       → port (wire_at wires e) ≡ port (wire_at wires f) → e ≡ f
 
@@ -60,7 +60,8 @@ module _ (node port : Wire → ℕ) where
         | false ↦ ports-any wires n k
       ]
 
-  ports-distinct : (wires : List Wire) (n : ℕ) → AreOnce wires → IsDistinct ◌==◌ (ports wires n)
+  ports-distinct : (wires : List Wire) (n : ℕ) → ArePortsOnce wires
+      → IsDistinct ◌==◌ (ports wires n)
   unfolding IsDistinct wire_at
   ports-distinct [] n once = tt
   ports-distinct (w ∷ wires) n once =
@@ -93,7 +94,7 @@ module _ (node port : Wire → ℕ) where
       omega (arith, ports-count wires n, long)
 
   -- where each port is below a limit, no more than the limit are at a node
-  pub count-limit : (wires : List Wire) (limit : ℕ) → AreOnce wires → (n : ℕ)
+  pub count-limit : (wires : List Wire) (limit : ℕ) → ArePortsOnce wires → (n : ℕ)
       → ((e : ℕ) → e < length wires → node (wire_at wires e) ≡ n → port (wire_at wires e) < limit)
       → port_count wires n ≤ limit
   count-limit wires limit once n under =
@@ -103,7 +104,7 @@ module _ (node port : Wire → ℕ) where
       omega (arith, ports-count wires n, short)
 
   -- each port below the count has an edge
-  pub port-of-count : (wires : List Wire) → AreOnce wires → AreGapless wires → (n k : ℕ)
+  pub port-of-count : (wires : List Wire) → ArePortsOnce wires → AreGapless wires → (n k : ℕ)
       → k < port_count wires n → has_port wires n k ≡ true
   port-of-count wires once gapless n k lt = elim (cases_Bool (has_port wires n k)) [
     | inl e ↦ e

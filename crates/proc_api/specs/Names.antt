@@ -16,7 +16,7 @@ pub use Rattle.proc_api.specs.Settled.{HasInputWire, HasOutputWire, ProducerKnow
 pub use Rattle.port_word.specs.Pictures.{no_wire}
 pub use Rattle.proc_api.specs.SpecContracts.{ArePortsOf, FitsInput, HasMade, HasNotedEnd, HasReadEnough, IsReadOut, IsWanting, IsWorkOf, MakesTypes, MayGrow, NotesEnd, OfPart, StandStill, most_rows, spec_growth}
 pub use Rattle.proc_api.specs.kinds.Csv.{ArePartBytes, ArePartRead, ArePartRows, HasMadeNothing, IsPartRead}
-pub use Rattle.proc_api.specs.kinds.HashJoin.{AreJoined, AreKeyPairs, FitsJoin, IsJoinWork, side_types}
+pub use Rattle.proc_api.specs.kinds.HashJoin.{AreJoined, AreKeyPairs, FitsJoin, IsJoinWork, IsKeyPair, side_types}
 pub use Rattle.proc_api.specs.kinds.Limit.{AreLimited, last_read}
 pub use Rattle.proc_api.specs.kinds.List.{IsListGrowth, IsListPassed, IsListRead, IsListReadOut, IsListUnread, KnowsList, list_growth, listed_edge, listed_edges, listed_part, listed_parts}
 pub use Rattle.proc_api.specs.kinds.MergeSorted.{AreInputsSorted, AreMerged, IsBeforeNone, head_at, head_rows}

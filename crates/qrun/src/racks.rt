@@ -1,8 +1,8 @@
 ghost use Rattle.std.specs.Prelude.{◌<◌, length, map};
 ghost use Rattle.std.specs.List.{All};
+ghost use Rattle.chunk_data.specs.Places.{Changes};
 ghost use Rattle.proc_api.specs.Clauses.{IsBlank, Unloads};
-ghost use Rattle.exec_laws.specs.Runs.{box_at};
-ghost use Rattle.plan_run.specs.OneBox.{OnlyBox};
+ghost use Rattle.proc_api.specs.Boxes.{no_box};
 
 use proc_api::{Processor, Rack};
 use query_model::processor_spec::Kind;
@@ -45,10 +45,8 @@ fn unload_boxes(boxes: &mut Vec<Box<dyn Processor + Send>>)
 
 fn unload_at(boxes: &mut Vec<Box<dyn Processor + Send>>, i: usize)
     requires { i < length boxes.old.items }
-    ensures only { OnlyBox i (map (λ b. seen b) boxes.old.items)
+    ensures { Changes no_box i Unloads (map (λ b. seen b) boxes.old.items)
         (map (λ b. seen b) boxes.new.items) }
-    ensures unloaded { Unloads (box_at (map (λ b. seen b) boxes.old.items) i)
-        (box_at (map (λ b. seen b) boxes.new.items) i) }
 {
     unload_box(&mut boxes[i]);
 }

@@ -6,7 +6,7 @@ ghost use Rattle.query_model.specs.Sources.{count_up};
 ghost use Rattle.sort_procs.specs.Ranks.{digit, HasRanks, is_exact, IsKeyRank, IsRank, IsValueRank, keys_tied, next_keys, in_direction, place_cmp, ranked_place, ranked_cmp, rows_at, IsSplit, PutsFront, PutsMore};
 ghost use Rattle.std.specs.Ordering.{is_lt};
 
-use chunk_data::{Chunk, Column, ColumnType, Memory, PlainSlice, SortKey};
+use chunk_data::{Chunk, Column, Memory, PlainSlice, SortKey};
 use std::alloc::Global;
 use std::cmp::Ordering;
 
@@ -197,10 +197,10 @@ fn is_exact(rows: &Chunk, keys: &[SortKey], rank: u64) -> bool
     ensures { result ≡ is_exact rows.now.types keys.now rank }
 {
     match keys.first() {
-        Some(key) => match rows.column(key.column as usize).kind() {
-            ColumnType::Text => in_direction(key.descending, rank) % 2 == 0,
-            ColumnType::Int64 | ColumnType::UInt64 => true,
-        },
+        Some(key) => {
+            !rows.column(key.column as usize).kind().is_text()
+                || in_direction(key.descending, rank) % 2 == 0
+        }
         None => false,
     }
 }

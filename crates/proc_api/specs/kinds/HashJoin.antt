@@ -1,19 +1,21 @@
 -- A join gives the pairs of rows that agree: those of input 0, the FROM table's, with those of
 -- input 1, which it reads to its end first.
 use Rattle.std.specs.Prelude.{◌++◌, ◌<◌, ◌≡◌}
-use Rattle.proc_api.specs.KindContract.{All, ColumnType, IsGatheringWork, IsPermutation, JoinSpec, KeyPair, KindContract, List, OwnState, Row, Some, WorkState, [], chunk_rows, false, fixed_ports, joined_rows, length, reads_all_first, slice_index_or, suc, true, unworked_at, zero, ℕ}
+use Rattle.chunk_data.specs.Values.{plain_type, type_at}
+use Rattle.proc_api.specs.KindContract.{All, ColumnType, IsGatheringWork, IsPermutation, JoinSpec, KeyPair, KindContract, List, OwnState, Row, Some, WorkState, [], chunk_rows, false, fixed_ports, joined_rows, length, reads_all_first, suc, true, unworked_at, zero, ℕ}
 
 -- the types of the rows of a join's input: the FROM table's at 0, the JOIN table's at 1
 abbrev pub side_types : JoinSpec → ℕ → List ColumnType
 side_types join zero = join.left
 side_types join (suc i) = join.right
 
--- each pair has a column of either side, both of one type
+-- the pair has a column of either side, both of one type apart from Nullable
+abbrev pub IsKeyPair : (left right : List ColumnType) → KeyPair → Type 0
+IsKeyPair left right pair = (pair.left < length left) × (pair.right < length right)
+    × (plain_type (type_at left pair.left) ≡ plain_type (type_at right pair.right))
+
 abbrev pub AreKeyPairs : JoinSpec → Type 0
-AreKeyPairs join =
-    All (λ (pair : KeyPair). (pair.left < length join.left) × (pair.right < length join.right)
-    × (slice_index_or join.left pair.left ColumnType.Text
-    ≡ slice_index_or join.right pair.right ColumnType.Text)) join.pairs
+AreKeyPairs join = All (IsKeyPair join.left join.right) join.pairs
 
 -- the types are those of the join's input, and its pairs have columns
 pub record FitsJoin (join : JoinSpec) (i : ℕ) (types : List ColumnType) : Type 0 where

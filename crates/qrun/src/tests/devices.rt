@@ -12,10 +12,9 @@ use super::{
 use crate::racks::OTHERS;
 use crate::tests::boxes::add_each;
 use chunk_data::{Bytes, List};
-use csv_procs::CsvSource;
-use csv_rows::{FetchFault, Fetched, fetch};
+use csv_procs::{CsvSource, Fetched, fetch};
 use outside_io::{Fake, FakeKind, FileEntry, FileReader, MemFiles};
-use proc_api::Rack;
+use proc_api::{Rack, WorkFault};
 use query_model::processor_spec::Kind;
 use std::alloc::{AllocError, Global};
 use std::sync::atomic::{AtomicU64, Ordering};
@@ -332,7 +331,7 @@ fn first_fetch(alloc: Global, files: &mut MemFiles, held: &mut Bytes) -> Result<
     match fetch(files, held, 10) {
         Ok(Fetched::Whole) => String::from_str(alloc, "whole"),
         Ok(Fetched::Pending) => String::from_str(alloc, "pending"),
-        Err(FetchFault::TooLong(_)) => String::from_str(alloc, "too long"),
+        Err(WorkFault::TooLong) => String::from_str(alloc, "too long"),
         Err(_) => String::from_str(alloc, "failed"),
         Ok(Fetched::More) => second_fetch(alloc, files, held),
     }

@@ -1,4 +1,4 @@
-use Rattle.plan_run.proofs.OneBox.{box-read, box-set, only-box}
+use Rattle.plan_run.proofs.OneBox.{box-read, changes-if-err, changes-if-ok}
 use Rattle.plan_run.proofs.boxes.load_at.Goals as goal
 
 pub load_box-requires-clause-blank : goal.load_box-requires-clause-blank
@@ -11,21 +11,11 @@ load_box-requires-clause-of_kind g c =
     rw (box-read _ _ _ c.index_mut.result.now c.requires.in_range c.index_mut.ensures.value) at
     c.requires.of_kind
 
-pub returns-clause-only : goal.returns-clause-only
-returns-clause-only g c = only-box _ _ _ _
-
 pub returns-clause-ok : goal.returns-clause-ok
-returns-clause-ok g c = rw (
-  box-read _ _ _ c.index_mut.result.now c.requires.in_range
-      c.index_mut.ensures.value,
-  box-set _ _ _ c.load_box.new.b c.requires.in_range,
-)
-    c.load_box.ensures.ok
+returns-clause-ok g c = changes-if-ok _ c.args.i _ c.args.boxes.now.items c.index_mut.result.now
+    c.load_box.new.b c.requires.in_range c.index_mut.ensures.value _ c.load_box.ensures.ok
 
 pub returns-clause-unchanged : goal.returns-clause-unchanged
-returns-clause-unchanged g c = rw (
-  box-read _ _ _ c.index_mut.result.now c.requires.in_range
-      c.index_mut.ensures.value,
-  box-set _ _ _ c.load_box.new.b c.requires.in_range,
-)
+returns-clause-unchanged g c = changes-if-err _ c.args.i _ c.args.boxes.now.items
+    c.index_mut.result.now c.load_box.new.b c.requires.in_range c.index_mut.ensures.value _
     c.load_box.ensures.unchanged

@@ -18,14 +18,14 @@ pub returns-in_err-load_at-clause-still : goal.returns-in_err-load_at-clause-sti
 returns-in_err-load_at-clause-still g c =
     loads-still c.loop-i.i c.args.specs.items _ _
     (none-more c.loop-i.i c.args.specs.items _ _ _ c.loop-i.invariant.loads
-    c.in_err-load_at.ensures.only c.in_err-load_at.ensures.unchanged)
+    c.in_err-load_at.ensures.unchanged)
 
 pub loop-i-preserved : goal.loop-i-preserved
 loop-i-preserved g c = record {
   loads = one-loaded c.loop-i.i c.args.specs.items _ _ _ c.remove.result
-      c.loop-i.invariant.loads c.in_ok-load_at.ensures.only
+      c.loop-i.invariant.loads c.in_ok-load_at.ensures.ok
       (next-spec c.args.specs.items c.loop-i.specs.items c.loop-i.i c.remove.result
-      c.loop-i.invariant.rest c.remove.ensures.value (omega arith)) c.in_ok-load_at.ensures.ok;
+      c.loop-i.invariant.rest c.remove.ensures.value (omega arith));
   rest = next-rest c.args.specs.items c.loop-i.specs.items c.remove.new.self.items c.loop-i.i
       c.loop-i.invariant.rest c.remove.ensures.items;
 }

@@ -7,8 +7,7 @@ pub loop-i-init : goal.loop-i-init
 loop-i-init g c = none-unloaded _
 
 pub loop-i-preserved : goal.loop-i-preserved
-loop-i-preserved g c = one-unloaded c.loop-i.i _ _ _ c.loop-i.invariant c.unload_at.ensures.only
-    c.unload_at.ensures.unloaded
+loop-i-preserved g c = one-unloaded c.loop-i.i _ _ _ c.loop-i.invariant c.unload_at.ensures
 
 pub returns-clause-unloaded : goal.returns-clause-unloaded
 returns-clause-unloaded g c =

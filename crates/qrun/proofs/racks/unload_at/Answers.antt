@@ -1,12 +1,7 @@
-use Rattle.plan_run.proofs.OneBox.{box-read, box-set, only-box}
+use Rattle.chunk_data.proofs.Places.{Changes-map_set}
+use Rattle.proc_api.specs.Names.{no_box, Unloads}
 use Rattle.qrun.proofs.racks.unload_at.Goals as goal
 
-pub returns-clause-only : goal.returns-clause-only
-returns-clause-only g c = only-box _ _ _ _
-
-pub returns-clause-unloaded : goal.returns-clause-unloaded
-returns-clause-unloaded g c =
-    rw (
-      box-read _ _ _ c.index_mut.result.now c.requires c.index_mut.ensures.value,
-      box-set _ _ _ c.unload_box.new.b c.requires,
-    ) c.unload_box.ensures
+pub returns : goal.returns
+returns g c = Changes-map_set _ no_box _ Unloads _ c.index_mut.result.now c.unload_box.new.b
+    c.requires c.index_mut.ensures.value c.unload_box.ensures

@@ -1,10 +1,10 @@
--- a file that is fetched block by block
+-- What is held of a file that is fetched block by block.
 use Rattle.std.proofs.Common.{◌≡◌, ℕ, ◌+◌, ◌<◌, List, [], ◌++◌, length, take, drop, refl, ap, ap₂, sym, ◌∙◌, arith, length-append, Option, Some, ◌∷◌}
-use Rattle.csv_rows.proofs.Imports.{IfSome, IsSome, drop-take, take-append-drop, take-take, take_all}
+use Rattle.csv_procs.proofs.Imports.{IfSome, IsSome, drop-take, take-append-drop, take-take, take_all}
 use Rattle.outside_io.specs.declared.entries.FileEntry.{FileEntry}
 use Rattle.outside_io.specs.Told.{files_of, told_bytes, moved_by, GivesNext, StandsAtEnd}
 use Rattle.query_model.specs.Database.{file_bytes as pair_bytes}
-use Rattle.csv_rows.specs.Fetching.{HoldsFront, IsFile, IsToldTooLong}
+use Rattle.csv_procs.specs.FileFetch.{HoldsFront, IsFile, IsToldTooLong}
 
 -- a fact of what is told, if anything is
 if_told : {X : Type 0} (o : Option X) {P : X → Type 0} → ((x : X) → o ≡ Some x → P x) → IfSome o P
