@@ -1,6 +1,6 @@
 -- What the code makes of two numbers is what is folded of them.
 use Rattle.aggregate_proc.proofs.Imports.{◌≡◌, ◌≢◌, ℕ, ◌+◌, ◌%◌, ◌^◌, ◌<◌, true, List, [], ◌∷◌, refl, ap, arith, ℤ, pos, ◌+ℤ◌, SFits, to_z, of_z, w64, Fold, Value, can_fold, chosen, combined, folded, int_max, int_min, int_wrap, int_wrap_fits, ints, next_folded, to_z-of_z, wrapped, wrapping_add_onto}
-use Rattle.chunk_data.specs.declared.typed_value.ColumnType.TheVariants as column
+use Rattle.chunk_data.specs.declared.typed_value.PlainType.TheVariants as plain
 use Rattle.chunk_data.specs.declared.typed_value.Value.TheVariants as value
 use Rattle.aggregate_proc.specs.declared.fold.Fold.TheVariants as fold
 
@@ -30,7 +30,7 @@ unfolding combined chosen
 greatest-int a b m f g e = grind arith
 
 -- the first value of a group
-pub starts-int : (f : Fold) (z : ℤ) → can_fold f column.Int64 ≡ true → SFits w64 z
+pub starts-int : (f : Fold) (z : ℤ) → can_fold f plain.Int64 ≡ true → SFits w64 z
     → folded f (value.Int z ∷ []) ≡ value.Int z
 unfolding combined chosen wrapped
 starts-int fold.Count z can f = absurd cc
@@ -46,7 +46,7 @@ starts-uint fold.Add n ne lt = let e : (n + 0) % 2 ^ 64 ≡ n = omega (arith, lt
 starts-uint fold.AddCounts n ne lt = grind arith
 starts-uint _ n ne lt = refl
 
-pub starts-text : (f : Fold) (text : List ℕ) → can_fold f column.Text ≡ true
+pub starts-text : (f : Fold) (text : List ℕ) → can_fold f plain.Text ≡ true
     → folded f (value.Text text ∷ []) ≡ value.Text text
 unfolding combined chosen
 starts-text fold.Count text can = absurd cc

@@ -1,12 +1,13 @@
 ghost use Rattle.std.specs.Prelude.{◌≡◌, ◌≢◌, true, IsTrue, if◌then◌else◌, List, [], length, map, OnOk, IfOk};
 ghost use Rattle.chunk_data.specs.Columns.{column_type, values};
+ghost use Rattle.chunk_data.specs.Values.{plain_type};
 ghost use Rattle.chunk_data.specs.declared.typed_value.Value.{Value};
 ghost use Rattle.chunk_data.specs.declared.typed_value.Value.TheVariants as value;
 ghost use Rattle.aggregate_proc.specs.Cells.{cell_type, cell_values, can_fold as may_fold, FitsColumn};
 ghost use Rattle.aggregate_proc.specs.Folds.{next_folded, put_all, with_rows};
 ghost use Rattle.aggregate_proc.specs.declared.fold.Fold.TheVariants as fold;
 
-use chunk_data::{Bytes, Chunk, Column, ColumnType, Memory, Texts};
+use chunk_data::{Bytes, Chunk, Column, ColumnType, Memory, PlainType, Texts};
 use std::alloc::Global;
 use std::marker::Model;
 
@@ -32,24 +33,14 @@ pub(crate) enum FoldValues {
 }
 
 impl FoldValues {
-    fn new(alloc: Global, kind: ColumnType) -> FoldValues
+    fn new(alloc: Global, kind: PlainType) -> FoldValues
         ensures kind { cell_type result ≡ kind }
         ensures empty { cell_values result ≡ [] }
     {
         match kind {
-            ColumnType::Int64 => FoldValues::Ints(Vec::new(alloc)),
-            ColumnType::UInt64 => FoldValues::UInts(Vec::new(alloc)),
-            ColumnType::Text => FoldValues::Texts(Vec::new(alloc)),
-        }
-    }
-
-    fn kind(&self) -> ColumnType
-        ensures { result ≡ cell_type self.now }
-    {
-        match self {
-            FoldValues::Ints(_) => ColumnType::Int64,
-            FoldValues::UInts(_) => ColumnType::UInt64,
-            FoldValues::Texts(_) => ColumnType::Text,
+            PlainType::Int64 => FoldValues::Ints(Vec::new(alloc)),
+            PlainType::UInt64 => FoldValues::UInts(Vec::new(alloc)),
+            PlainType::Text => FoldValues::Texts(Vec::new(alloc)),
         }
     }
 }
@@ -60,22 +51,24 @@ impl FoldValues {
 pub(crate) struct FoldColumn {
     op: Fold,
     input: usize,
+    kind: ColumnType,
     cells: FoldValues,
-    ghost sound: { may_fold op (cell_type cells) ≡ true },
+    ghost typed: { cell_type cells ≡ plain_type kind },
+    ghost sound: { may_fold op (plain_type kind) ≡ true },
 }
 
 impl Model for FoldColumn {
-    ghost use Rattle.aggregate_proc.specs.Cells.{cell_type, cell_values};
+    ghost use Rattle.aggregate_proc.specs.Cells.{cell_values};
     ghost use Rattle.aggregate_proc.specs.Folds.{FoldColumn as Seen};
 
     ghost Value = { Seen };
 
     ghost view = { λ c. record
-        { op = c.op; input = c.input; kind = cell_type c.cells; values = cell_values c.cells } };
+        { op = c.op; input = c.input; kind = c.kind; values = cell_values c.cells } };
 }
 
 fn next_int(op: Fold, state: i64, number: i64) -> i64
-    requires { may_fold op ColumnType.Int64 ≡ true }
+    requires { may_fold op PlainType.Int64 ≡ true }
     ensures { value.Int result ≡ next_folded op (value.Int state) (value.Int number) }
 {
     match op {
@@ -100,7 +93,7 @@ fn next_uint(op: Fold, state: u64, number: u64) -> u64
 
 /// Whether the text takes the state's place.
 fn replaces(op: Fold, state: &[u8], text: &[u8]) -> bool
-    requires { may_fold op ColumnType.Text ≡ true }
+    requires { may_fold op PlainType.Text ≡ true }
     ensures { next_folded op (value.Text state.now) (value.Text text.now)
         ≡ (if result then value.Text text.now else value.Text state.now) }
 {
@@ -117,7 +110,7 @@ fn fold_ints(
     numbers: &[i64],
     places: &[usize],
 ) -> Result<(), Memory>
-    requires op { may_fold op ColumnType.Int64 ≡ true }
+    requires op { may_fold op PlainType.Int64 ≡ true }
     requires long { length numbers.now ≡ length places.now }
     ensures { OnOk result
         (map value.Int states.new.items
@@ -164,7 +157,7 @@ fn fold_texts(
     texts: &Texts,
     places: &[usize],
 ) -> Result<(), Memory>
-    requires op { may_fold op ColumnType.Text ≡ true }
+    requires op { may_fold op PlainType.Text ≡ true }
     requires long { length texts.now ≡ length places.now }
     ensures { OnOk result
         (map value.Text states.new.items
@@ -201,13 +194,13 @@ fn fold_counts(states: &mut Vec<u64>, places: &[usize]) -> Result<(), Memory>
     Ok(())
 }
 
-/// Whether a column of the type can fold so.
-pub(crate) fn can_fold(op: Fold, kind: ColumnType) -> bool
+/// Whether a column of values of the type can fold so.
+pub(crate) fn can_fold(op: Fold, kind: PlainType) -> bool
     ensures { result ≡ may_fold op kind }
 {
     match op {
-        Fold::Count | Fold::AddCounts => kind == ColumnType::UInt64,
-        Fold::Add => !kind.is_text(),
+        Fold::Count | Fold::AddCounts => matches!(kind, PlainType::UInt64),
+        Fold::Add => !matches!(kind, PlainType::Text),
         Fold::First | Fold::Least | Fold::Greatest => true,
     }
 }
@@ -217,19 +210,19 @@ impl FoldColumn {
     pub(crate) fn fits(&self, types: &[ColumnType]) -> bool
         ensures { IsTrue result → FitsColumn types.now self.now }
     {
-        self.op == Fold::Count
-            || (self.input < types.len() && types[self.input] == self.cells.kind())
+        self.op == Fold::Count || (self.input < types.len() && types[self.input] == self.kind)
     }
 
     /// A column without groups.
     pub(crate) fn new(alloc: Global, op: Fold, input: usize, kind: ColumnType) -> FoldColumn
-        requires { may_fold op kind ≡ true }
+        requires { may_fold op (plain_type kind) ≡ true }
         ensures { result ≡ record { op = op; input = input; kind = kind; values = [] } }
     {
         FoldColumn {
             op,
             input,
-            cells: FoldValues::new(alloc, kind),
+            kind,
+            cells: FoldValues::new(alloc, kind.plain()),
         }
     }
 
