@@ -1,5 +1,5 @@
 -- What a seat knows of its edges, of its slots and of how far its node is, after a step.
-use Rattle.exec_table.proofs.Imports.{EdgeHolds, StepAnswer, Begun, Board, Bool, Born, Chunk, CoreState, EdgeEnd, Flags, HandHolds, Holds, Identity, IsSeatOf, Lane, MakesStep, NodeSeat, NodeView, None, Option, Over, PortState, Pull, Push, Slots, Some, Stage, Step, Wire, after, answer, ap, arith, board_after, both_ways, cases_Bool, cases_eq, cond, edges-seeing, edges_of, end_for, end_of_view, end_view, eq-eqb, eqb, false, flags_at, get_or, get_or-set_other, get_or-set_same, has-last, inl, inr, is_end, is_none, is_some, knows, lane_at, learned, length, looked_at, map-append, may, names, ne_eqb, no_flags, no_lane, no_port, node_at, node_of, node_view, port_at, port_of, pulled_from, pushed_to, refl, set, slot_in, slot_of, slots, stage_at, subst, sym, true, view, wire_ok, wiring, ℕ, ◌&&◌, ◌<◌, ◌∙◌, ◌≡◌, ◌≢◌, ◌||◌, ◌⊎◌}
+use Rattle.exec_table.proofs.Imports.{EdgeHolds, StepAnswer, Begun, Board, Bool, Born, Chunk, CoreState, EdgeEnd, Flags, HandHolds, Holds, Identity, IsSeatOf, Lane, MakesStep, NodeSeat, NodeView, None, Option, Over, Pull, Push, Slots, Some, Stage, Step, Wire, after, answer, ap, arith, board_after, both_ways, cases_Bool, cases_eq, cond, edges-seeing, edges_of, end_for, end_of_view, end_view, eq-eqb, eqb, false, flags_at, get_or, get_or-set_other, get_or-set_same, has-last, inl, inr, is_end, is_none, is_some, knows, lane_at, learned, length, looked_at, map-append, may, names, ne_eqb, no_flags, no_lane, node_at, node_view, port_at, pulled_from, pushed_to, refl, set, slot_in, slot_of, slots, stage_at, subst, sym, true, view, wire_ok, wiring, ℕ, ◌&&◌, ◌<◌, ◌∙◌, ◌≡◌, ◌≢◌, ◌||◌, ◌⊎◌}
 use Rattle.core_laws.proofs.Lists.{flags-last, seeing-other}
 use Rattle.core_laws.specs.Steps.{flags}
 use Rattle.core_laws.specs.declared.types.Step.TheVariants as step
@@ -37,16 +37,6 @@ looked-end : (n : ℕ) (w : Option Wire) (l : Lane) (f : Flags) → names n w �
     → LooksAt (is_end true n w) f (end_for n true w l)
     (end_for n true w (looked_at (is_end true n w) l))
 looked-end n w l f h q = grind arith
-
--- an edge that is learned has its wire from now on
-learned-end : (n : ℕ) (k : Bool) (w : Option Wire) (l : Lane) → names n w ≡ true
-    → end_for n (k || true) w l ≡ end_wired w (end_for n k w l)
-learned-end n k w l h = grind arith
-
--- and nothing was there before it got one
-bare-end : (n : ℕ) (k : Bool) (w : Wire) → eqb w.from n ≡ true
-    → end_for n (k || true) (Some w) no_lane ≡ end_wired (Some w) (end_for n k None no_lane)
-bare-end n k w h = grind arith
 
 learned-knows : (c : CoreState) (n e d : ℕ) → n < length c.nodes
     → knows d (node_at (learned c n e) n).seen ≡ (knows d (node_at c n).seen || eqb e d)
@@ -105,20 +95,16 @@ module _ (b : Board) (n : ℕ) (h : Holds b) (here : n < length b.core.nodes) wh
         → end_of_view (node_view c n) d ≡ cond (eqb d e)
         (end_wired w (end_of_view (node_view b n) e)) (end_of_view (node_view b n) d)
     wired-end e w q core lanes nodes mine others at d = by_index d e _ _ _
-        (λ t. ap (end_of_view (node_view c n)) t ∙ (stepped e
-        ∙ ((λ i. end_for n (known e || eq-eqb e e refl i) (mine i) (lane_at b e))
-        ∙ (at ∙ ap (end_wired w) (sym (view-end b n e h))))))
-        (λ ne. stepped d ∙ ((λ i. end_for n (known-else (known d) d e ne i) (others d ne i)
-        (lane_at b d)) ∙ sym (view-end b n d h)))
+        (λ t. let end = stepped e in let own = eq-eqb e e refl in
+        grind (arith, t, end, own, mine, at, view-end b n e h))
+        (λ ne. let end = stepped d in let else = known-else (known d) d e ne in
+        grind (arith, end, else, others d ne, view-end b n d h))
       where
         stepped : (d : ℕ) → end_of_view (node_view c n) d
             ≡ end_for n (known d || eqb e d) (port_at q d).wire (lane_at b d)
-        stepped d = view-end c n d after ∙ (λ i. end_for n
-            ((ap (λ (k : CoreState). knows d (node_at k n).seen) core
-            ∙ (learned-knows q n e d (subst (λ l. n < length l) (sym nodes) here)
-            ∙ ap (λ l. knows d (node_of l n).seen || eqb e d) nodes)) i)
-            ((ap (λ (k : CoreState). (port_at k d).wire) core
-            ∙ ap (λ l. (port_of l d).wire) (learned-ports q n e)) i) (get_or (lanes i) d no_lane))
+        stepped d = let end = view-end c n d after in let ports = learned-ports q n e in
+            let learns = learned-knows q n e d (subst (λ l. n < length l) (sym nodes) here) in
+            grind (arith, end, learns, ports, core, lanes, nodes)
 
     -- nothing changes
     still-core : (o : Bool) (e : ℕ) (y : EdgeEnd) → o ≡ false → c.core ≡ b.core → c.lanes ≡ b.lanes
@@ -136,36 +122,28 @@ module _ (b : Board) (n : ℕ) (h : Holds b) (here : n < length b.core.nodes) wh
   ends-after (step.Look e) x g after d away back = same-end (step.Look e) x g after refl d
       (get_or-set_other b.lanes e d _ no_lane (λ t. both_ways _ away (eq-eqb d e t)))
   ends-after (step.Push e k) x g after d away back = let p = act-parts (Push k) b.core n e g in
-      let i = (holds-in b.core n e p.0).1 in
-      lane-end (step.Push e k) x g after refl e _ _ refl i d (λ t. pushed-end n (known e)
-      (edge_wire e) (lane_at b e) x p.1 (lone-end n b.core.sizes.nodes (edge_wire e)
-      (h.laws.edges.each e i).wired.sound p.1) ∙ ap (end_passed x) (sym (view-end b n e h)))
+      let i = (holds-in b.core n e p.0).1 in let was = view-end b n e h in
+      let lone = lone-end n b.core.sizes.nodes (edge_wire e) (h.laws.edges.each e i).wired.sound in
+      let end = pushed-end n (known e) (edge_wire e) (lane_at b e) x p.1 (lone p.1) in
+      lane-end (step.Push e k) x g after refl e _ _ refl i d (λ t. grind (arith, end, was))
   ends-after (step.Pull e) x g after d away back = let p = act-parts Pull b.core n e g in
+      let end = pulled-end n (known e) (edge_wire e) (lane_at b e) p.1 in
+      let was = view-end b n e h in
       lane-end (step.Pull e) x g after refl e _ _ refl (holds-in b.core n e p.0).1 d
-      (λ t. pulled-end n (known e) (edge_wire e) (lane_at b e) p.1
-      (ap (λ (z : EdgeEnd). is_some z.turn) (sym (view-end b n e h)) ∙ back (eq-eqb d e t))
-      ∙ ap (λ (z : EdgeEnd). end_passed (lying z.turn) z) (sym (view-end b n e h)))
+      (λ t. grind (arith, end, was, back, t))
   ends-after (step.Wire e w) x g after d away back = elim (cases_Bool (is_none (edge_wire e))) [
     | inl q ↦ let none = no-wire (edge_wire e) q in let bare = (h.lanes e).bare none in
         let i : e < length b.core.ports = grind arith in
-        wired-end (step.Wire e w) x g after e (Some w) (wiring b.core e w)
-        (ap (λ o. cond o (learned (wiring b.core e w) n e) b.core) q) refl refl
-        (ap (λ (p : PortState). p.wire) (get_or-set_same b.core.ports e _ no_port i))
-        (λ d ne. ap (λ (p : PortState). p.wire) (get_or-set_other b.core.ports e d _ no_port ne))
-        ((λ j. end_for n (known e || true) (Some w) (bare j))
-        ∙ (bare-end n (known e) w (grind arith)
-        ∙ (λ j. end_wired (Some w) (end_for n (known e) (sym none j) (sym bare j))))) d
-        ∙ ap (λ o. cond (o && eqb d e) (end_wired (Some w) (end_of_view (node_view b n) e))
-        (end_of_view (node_view b n) d)) (sym q)
+        let is = wired-end (step.Wire e w) x g after e (Some w) (wiring b.core e w)
+        (grind (arith, q)) refl refl (grind (arith, i, get_or-set_same))
+        (λ d ne. grind (arith, ne, get_or-set_other)) (grind (arith, bare, none)) d in
+        grind (arith, is, q)
     | inr q ↦ still-core (step.Wire e w) x g after (is_none (edge_wire e)) e _ q
         (ap (λ o. cond o (learned (wiring b.core e w) n e) b.core) q) refl d
   ]
   ends-after (step.Wired e) x g after d away back = elim (cases_Bool (names n (edge_wire e))) [
-    | inl q ↦ wired-end (step.Wired e) x g after e (edge_wire e) b.core
-        (ap (λ o. cond o (learned b.core n e) b.core) q) refl refl refl (λ _ _. refl)
-        (learned-end n (known e) (edge_wire e) (lane_at b e) q) d
-        ∙ ap (λ o. cond (o && eqb d e) (end_wired (edge_wire e) (end_of_view (node_view b n) e))
-        (end_of_view (node_view b n) d)) (sym q)
+    | inl q ↦ let is = wired-end (step.Wired e) x g after e (edge_wire e) b.core (grind (arith, q))
+        refl refl refl (λ _ _. refl) (grind (arith, q)) d in grind (arith, is, q)
     | inr q ↦ still-core (step.Wired e) x g after (names n (edge_wire e)) e _ q
         (ap (λ o. cond o (learned b.core n e) b.core) q) refl d
   ]
@@ -275,11 +253,11 @@ module _ {t : Identity} {old new : NodeSeat} {e : ℕ} {x : Option Chunk} {f : F
   -- the edge that was looked at
   pub look-made : LooksAt (is_end true n (end_of_view (view old) e).wire) f
       (end_of_view (view old) e) (end_of_view (view new) e)
-  look-made = subst (λ (z : Option Wire × EdgeEnd × EdgeEnd). LooksAt (is_end true n z.0) f z.1 z.2)
-      (λ i. (sym (ap (λ (z : EdgeEnd). z.wire) before ∙ wired) i, sym before i, sym now i))
-      (looked-end n w (lane_at b e) f (edge.learned n seen) (ap (λ (g : Flags). g.has_data)
-      (sym (ap flags_in m.says)) ∙ sym (lane-full (port_at b.core e) (lane_at b e) edge.content
-      (m.holds.lanes e))))
+  look-made = let p = port_at b.core e in
+      let full = lane-full p (lane_at b e) edge.content (m.holds.lanes e) in
+      let says = ap (λ (g : Flags). g.has_data) (sym (ap flags_in m.says)) ∙ sym full in
+      let looks = looked-end n w (lane_at b e) f (edge.learned n seen) says in
+      grind (arith, looks, before, wired, now)
     where
       inside : e < length b.core.ports
       inside = (holds-in b.core n e m.may).1
@@ -291,19 +269,16 @@ module _ {t : Identity} {old new : NodeSeat} {e : ℕ} {x : Option Chunk} {f : F
       seen = let g = m.may in grind arith
 
       before : end_of_view (view old) e ≡ end_for n true w (lane_at b e)
-      before = sym (ap (λ (v : NodeView). end_of_view v e) m.was) ∙ (view-end b n e m.holds
-          ∙ ap (λ k. end_for n k w (lane_at b e)) seen)
+      before = let end = view-end b n e m.holds in grind (arith, m.was, end, seen)
 
       wired : (end_for n true w (lane_at b e)).wire ≡ w
       wired = grind (arith, edge.learned n seen)
 
       now : end_of_view (view new) e
           ≡ end_for n true w (looked_at (is_end true n w) (lane_at b e))
-      now = sym (ap (λ (v : NodeView). end_of_view v e) m.now)
-          ∙ (plain-end b n m.holds (node-inside o m) (step.Look e) x m.may m.kept refl e
-          ∙ (λ i. end_for n (seen i) w (get_or-set_same b.lanes e
-          (looked_at (is_end true n w) (lane_at b e)) no_lane
-          (let k = m.holds.lane_count in let j = inside in omega (arith, k, j)) i)))
+      now = let i = inside in let k = m.holds.lane_count in let lane = get_or-set_same b.lanes e in
+          let end = plain-end b n m.holds (node-inside o m) (step.Look e) x m.may m.kept refl e in
+          grind (arith, m.now, end, seen, lane, i, k)
 
   pub look-slot : slot_of new e ≡ slot_looked (slot_of old e) (end_of_view (view new) e).turn
   look-slot = let now = slot-turn (view new) (slots new) e m.seat.hand in

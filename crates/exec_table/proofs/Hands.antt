@@ -1,5 +1,5 @@
 -- The slots that are out with a seat, after each step of its node.
-use Rattle.exec_table.proofs.Imports.{is_some, inr, Act, Close, Finish, Unwant, Want, may_act, Board, Bool, Chunk, CoreState, Holds, Lane, NodeView, None, Option, Pull, Push, Some, Step, Wire, [], acted, after, ap, arith, board_after, carried_after, cases_eq, cond, cond_both, end_of_view, eqb, false, fits_end, front, get_or, get_or-set_other, get_or-set_same, has, is_held_end, inl, is_at_hand, is_end, is_none, keeps, lane_at, learned, length, looked_at, may, names, no_lane, no_port, node_view, not, port_after, port_at, port_of, refl, rest, set, slot_act, subst, sym, takes, true, turn_at, ℕ, ◌&&◌, ◌<◌, ◌∙◌, ◌∷◌, ◌≡◌, ◌≢◌, HandHolds, Slots, edges_out, slot_in, eqb-true, once, ◌⊎◌}
+use Rattle.exec_table.proofs.Imports.{is_some, inr, Act, Close, Finish, Unwant, Want, may_act, Board, Bool, Chunk, CoreState, Holds, Lane, NodeView, None, Option, Pull, Push, Some, Step, Wire, [], acted, after, ap, arith, board_after, carried_after, cases_eq, cond, cond_both, end_of_view, eqb, false, fits_end, front, get_or-set_other, get_or-set_same, has, is_held_end, inl, is_at_hand, is_end, is_none, keeps, lane_at, learned, length, looked_at, may, names, no_lane, no_port, node_view, not, port_after, port_at, port_of, refl, rest, set, slot_act, sym, takes, true, turn_at, ℕ, ◌&&◌, ◌<◌, ◌∙◌, ◌∷◌, ◌≡◌, ◌≢◌, HandHolds, Slots, edges_out, slot_in, eqb-true, once, ◌⊎◌}
 use Rattle.exec_table.proofs.Readiness.{view-end}
 use Rattle.exec_table.proofs.Stepping.{act-parts, act-wire, holds-in}
 use Rattle.exec_table.proofs.Tied.{filled-hand, emptied-hand, look-nothing}
@@ -121,13 +121,11 @@ turn-set : (b c : Board) (n d : ℕ) (l : Lane) → Holds b → Holds c → d < 
     → c.lanes ≡ set b.lanes d l → Wires c.core b.core → (e : ℕ)
     → (end_of_view (node_view c n) e).turn
     ≡ cond (eqb e d) (turn_for n (port_at b.core d).wire l) (end_of_view (node_view b n) e).turn
-turn-set b c n d l h after i lanes wires e = view-turn c n e after
-    ∙ ((λ j. turn_for n (wires e j) (get_or (lanes j) e no_lane)) ∙ by_index e d _ _ _
-    (λ t. subst (λ k. turn_for n (port_at b.core k).wire (get_or (set b.lanes d l) k no_lane)
-    ≡ turn_for n (port_at b.core d).wire l) (sym t) (ap (turn_for n (port_at b.core d).wire)
-    (get_or-set_same b.lanes d l no_lane (let k = h.lane_count in omega (arith, k, i)))))
-    (λ ne. ap (turn_for n (port_at b.core e).wire) (get_or-set_other b.lanes d e l no_lane ne)
-    ∙ sym (view-turn b n e h)))
+turn-set b c n d l h after i lanes wires e = let same = get_or-set_same b.lanes d l no_lane in
+    let other = get_or-set_other b.lanes d e l no_lane in let now = view-turn c n e after in
+    let was = view-turn b n e h in let wire = wires e in let k = h.lane_count in
+    by_index e d _ _ _ (λ t. grind (arith, now, t, wire, lanes, same, i, k))
+    (λ ne. grind (arith, now, ne, wire, lanes, other, was))
 
 -- the turn of a slot that a look takes
 turn-looked : (b : Board) (n d : ℕ) → Holds b → is_held_end b.core n d ≡ true
@@ -168,18 +166,14 @@ module _ (b : Board) (n : ℕ) (h : Holds b) (slots : Slots) (hand : HandHolds (
         (carried_after slots (slot_act b n (step.Look d)))
     hand-looked d x g after = let l = lane_at b d in let w = (port_at b.core d).wire in
         let y = node_view (board_after b n (step.Look d) x) n in
+        let turns = looked-turns d x g after in let turn = turn-looked b n d h g in
         cond_both (not l.taken && fits_end (is_end true n w) l.content) (takes d l.content) keeps
         (λ z. HandHolds y (carried_after slots z))
         (λ q. hand-more (node_view b n) y slots d l.content
         (view-turn b n d h ∙ home-turn n w l (grind arith))
-        (λ e. looked-turns d x g after e
-        ∙ ap (λ t. cond (eqb e d) t (end_of_view (node_view b n) e).turn)
-        (turn-looked b n d h g q)) hand)
-        (λ q. hand-same (node_view b n) y slots (λ e. looked-turns d x g after e ∙
-        cond_both (eqb e d) _ (end_of_view (node_view b n) e).turn
-        (λ t. t ≡ (end_of_view (node_view b n) e).turn)
-        (λ r. ap (turn_for n w) (look-nothing (is_end true n w) l q) ∙ (sym (view-turn b n d h)
-        ∙ ap (λ k. (end_of_view (node_view b n) k).turn) (sym (eqb-true e d r)))) (λ _. refl)) hand)
+        (λ e. grind (arith, turns e, turn, q)) hand)
+        (λ q. hand-same (node_view b n) y slots (λ e. let was = view-turn b n d h in
+        grind (arith, turns e, look-nothing (is_end true n w) l q, was, eqb-true e d)) hand)
 
     -- a slot that is out after a look was out, or was taken with what lies in the port
     pub look-slots : (d : ℕ) (x : Option Chunk) → is_held_end b.core n d ≡ true
@@ -187,25 +181,27 @@ module _ (b : Board) (n : ℕ) (h : Holds b) (slots : Slots) (hand : HandHolds (
         → slot_in e (carried_after slots (slot_act b n (step.Look d))) ≡ Some v
         → (slot_in e slots ≡ Some v) ⊎ ((slot_in e slots ≡ None)
         × ((end_of_view (node_view (board_after b n (step.Look d) x) n) e).turn ≡ Some v))
-    look-slots d x g after e v = let l = lane_at b d in
+    look-slots d x g after e v = let l = lane_at b d in let turns = looked-turns d x g after e in
+        let turn = turn-looked b n d h g in let was = view-turn b n d h in
+        let home = home-turn n (port_at b.core d).wire l in
         cond_both (not l.taken && fits_end (is_end true n (port_at b.core d).wire) l.content)
         (takes d l.content) keeps (λ z. slot_in e (carried_after slots z) ≡ Some v
         → (slot_in e slots ≡ Some v) ⊎ ((slot_in e slots ≡ None)
         × ((end_of_view (node_view (board_after b n (step.Look d) x) n) e).turn ≡ Some v)))
-        (λ q. taken-slot d e l.content v _ _ _ (looked-turns d x g after e
-        ∙ ap (λ t. cond (eqb e d) t (end_of_view (node_view b n) e).turn)
-        (turn-looked b n d h g q)) (λ at. ap (λ k. slot_in k slots) at
-        ∙ no-slot d slots (hand.turns d ∙ ap is_some (view-turn b n d h
-        ∙ home-turn n (port_at b.core d).wire l (grind arith))))) (λ _ r. inl r)
+        (λ q. taken-slot d e l.content v _ _ _ (turns
+        ∙ ap (λ t. cond (eqb e d) t (end_of_view (node_view b n) e).turn) (turn q))
+        (λ at. ap (λ k. slot_in k slots) at
+        ∙ no-slot d slots (grind (arith, hand.turns d, was, home)))) (λ _ r. inl r)
 
     -- a push or a pull, which leaves the lane m, whose slot is at home
     hand-given : (c : Board) (d : ℕ) (v : Option Chunk) (m : Lane) → Holds c
         → d < length b.core.ports → c.lanes ≡ set b.lanes d m → Wires c.core b.core
         → m.taken ≡ false → slots ≡ (d, v) ∷ rest slots → HandHolds (node_view c n) (rest slots)
-    hand-given c d v m after i lanes wires home front = hand-less (node_view b n) (node_view c n)
-        (rest slots) d v (λ e. turn-set b c n d m h after i lanes wires e
-        ∙ ap (λ t. cond (eqb e d) t (end_of_view (node_view b n) e).turn)
-        (home-turn n (port_at b.core d).wire m home)) (subst (HandHolds (node_view b n)) front hand)
+    hand-given c d v m after i lanes wires home front =
+        let none = home-turn n (port_at b.core d).wire m home in
+        let turns = turn-set b c n d m h after i lanes wires in
+        hand-less (node_view b n) (node_view c n) (rest slots) d v
+        (λ e. grind (arith, turns e, none)) (grind (arith, front, hand))
 
     -- a push, whatever the slot has meanwhile
     pub hand-pushed : (d k : ℕ) (x v : Option Chunk) → may b.core n (step.Push d k) ≡ true

@@ -1,5 +1,5 @@
 -- Views joined and words noted keep the rule.
-use Rattle.exec_table.proofs.Imports.{Allows, Board, Distinct, ViewFits, Holds, Joins, List, NodeView, Sat, Shown, Sizes, View, [], ap, arith, at_index, at_set, drop, cond, edge_count, eqb, false, get_elem?, get_or, get_or_default, inl, inr, keeps, length, no_view, refl, set, some, some-injective, some-ne-none, subst, suc, sym, take, unstopped, words_of, zero, length-map, map-append, ℕ, ⊎_elim, ◌++◌, ◌+◌, ◌<◌, ◌∙◌, ◌∷◌, ◌≡◌, ◌≢◌, ◌≤◌, ◌⊎◌, Enters, IsFinal, just_first, first_or_none, IsSeatOf, slots, view, Identity, AreAll, HasAll, EachSeat, IsBack, IsLent, Surveyed, joined_views, noted_word, noting, views, NodeSeat, at_map, drop_at, ext_get_or, Chunk, Lane, None, Option, Seen, home_of, map, no_lane, none}
+use Rattle.exec_table.proofs.Imports.{Allows, Board, Distinct, ViewFits, Holds, Joins, List, NodeView, Sat, Shown, Sizes, View, [], ap, arith, at_index, at_set, drop, cond, edge_count, eqb, false, get_elem?, get_or, get_or_default, inl, inr, keeps, length, no_view, refl, set, some, some-injective, some-ne-none, subst, suc, sym, take, unstopped, words_of, zero, length-map, map-append, ℕ, ⊎_elim, ◌++◌, ◌+◌, ◌<◌, ◌∙◌, ◌∷◌, ◌≡◌, ◌≢◌, ◌≤◌, ◌⊎◌, Enters, IsFinal, just_first, first_or_none, IsSeatOf, slots, view, Identity, AreAll, HasAll, EachSeat, IsBack, IsLent, Surveyed, joined_views, noted_word, noting, views, NodeSeat, at_map, drop_at, ext_get_or, Chunk, Lane, None, Option, Seen, home_of, map, no_lane}
 use Rattle.atomic_table.specs.Table.{Final as AtEnd}
 use Rattle.exec_table.specs.declared.shut.Final.{Final}
 use Rattle.exec_table.proofs.Wording.{pending-small}
@@ -91,9 +91,7 @@ note-allowed key slots id i m all next st r deep mine fit = (
     apart = was.apart;
     noted = λ j w q. ⊎_elim (λ (t : get_elem? m.0.noted j ≡ some w). was.noted j w t)
         (λ (t : (j ≡ i) × (noted_word i (get_or st.words i 0) ≡ w)). record {
-          is = ap (λ k. get_or (words_of (unstopped r.board.core)) k 0) t.0
-              ∙ (noted-is r.board i r.holds ∙ (ap (λ l. noted_word i (get_or l i 0)) (sym r.words)
-              ∙ t.1));
+          is = let is = noted-is r.board i r.holds in grind (arith, t, is, r.words);
           all = λ n l. let x = all n (subst (λ s. n < s.nodes) r.sizes l) in
               ap r.owner (sym x.3) ∙ (was.each x.0 x.1 x.2).owned;
         }) (one-more m.0.noted (noted_word i (get_or st.words i 0)) w j i next q);
@@ -123,8 +121,8 @@ survey-allowed key slots id i m full st r deep mine fit = (
       all = ext_get_or 0 m.0.noted (words_of (unstopped r.board.core))
           (let long = words-count (unstopped r.board.core) in let laws = r.holds.laws in
           grind (arith, long, laws.nodes.number, laws.edges.count))
-          (λ k l. sym (was.noted k (get_or m.0.noted k 0)
-          (at_index m.0.noted k _ l (get_or_default m.0.noted k 0 _ l))).is);
+          (λ k l. sym (was.noted k _ (at_index m.0.noted k (get_or m.0.noted k 0) l
+          (get_or_default m.0.noted k 0 _ l))).is);
       seen = λ k x q. (was.each k x q).is;
     },
   ),
@@ -239,6 +237,5 @@ ends_are_final key id v nodes f ws xs e words chunks is = let r = e.1.0 in recor
     lies [] [] i home long at = refl
     lies [] (x ∷ xs) i home long at = absurd (omega arith)
     lies (l ∷ ls) [] i home long at = absurd (omega arith)
-    lies (l ∷ ls) (x ∷ xs) zero home long at = some-injective x l.content
-        (at l.content (ap (λ t. some (cond t none (some l.content))) home))
+    lies (l ∷ ls) (x ∷ xs) zero home long at = grind (arith, some-injective, at l.content)
     lies (l ∷ ls) (x ∷ xs) (suc i) home long at = lies ls xs i home (omega arith) at

@@ -92,8 +92,8 @@ module _ (key : Sizes) (slots id : ℕ) (m : Sat) (x : NodeView) (s : Step) (i :
     found = λ k. get_or (r.words k) (what.0 k) 0
 
     words : set st.words i (f (get_or st.words i 0)) ≡ words_of d.core
-    words = (λ k. set (r.words k) (what.0 k) ((what.1 (get_or st.words i 0)
-        ∙ ap (op b.core n s) found) k)) ∙ sym (word-after b n s r.holds here.inside can)
+    words = let now = word-after b n s r.holds here.inside can in
+        grind (arith, r.words, what.0, what.1 (get_or st.words i 0), found, now)
 
     -- another seat has other nodes, and has noted no words
     others : (j : ℕ) (v : View) → j ≢ id → ViewFits b r.owner j v → ViewFits d r.owner j v

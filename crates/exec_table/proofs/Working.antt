@@ -1,5 +1,5 @@
 -- Marks, wires and workers: what their calls' proofs cite.
-use Rattle.exec_table.proofs.Imports.{Allows, Board, Bool, Step, board_after, ViewFits, Holds, None, Sat, Shown, Sizes, Some, Splits, View, Wire, ap, edge_count, arith, at_snoc, bit_at_or, bit_or, cond, end_of_view, first_word, get_elem?, get_or, keeps, length, may, node_view, or_comm, or_shifted, peer_in, port_at, refl, same_from_bits, set, some, subst, sym, true, wire_of, wire_ok, wire_word, words_of, ℕ, ⊎_elim, ◌+◌, ◌<◌, ◌^◌, ◌∙◌, ◌≡◌, ◌≤◌, le-leb, lt-leb, ready, Worked, next_worker, with_worker, wire_in, ExecTable, Identity, IsSeatOf, identity_of, seen_in_word, view, NodeSeat}
+use Rattle.exec_table.proofs.Imports.{Allows, Board, Bool, Step, board_after, ViewFits, Holds, None, Sat, Shown, Sizes, Some, Splits, View, Wire, ap, edge_count, arith, at_snoc, bit_at_or, bit_or, cond, end_of_view, first_word, get_elem?, get_or, keeps, length, may, node_view, or_comm, or_shifted, peer_in, port_at, refl, same_from_bits, set, some, subst, sym, true, wire_of, wire_ok, wire_word, ℕ, ⊎_elim, ◌+◌, ◌<◌, ◌^◌, ◌∙◌, ◌≡◌, ◌≤◌, le-leb, lt-leb, ready, Worked, next_worker, with_worker, wire_in, ExecTable, Identity, IsSeatOf, identity_of, seen_in_word, view, NodeSeat}
 use Rattle.exec_table.proofs.Showing.{fits-none, fits-set, shown_by_other_views, stopped_at, stopped-fits, stopped-holds}
 use Rattle.exec_table.proofs.Wording.{pending-small}
 use Rattle.exec_table.proofs.Seating.{known-wire, wire-read}
@@ -82,8 +82,8 @@ worker-allowed key slots id m s f to after worker word sizes st r deep mine fit 
     board = d;
     holds = holds;
     sizes = r.sizes;
-    words = ap (λ l. set l 0 (f (get_or l 0 0))) r.words ∙ ap (λ w. set (words_of b.core) 0 w)
-        (word b.core.pending b.core.stopped (pending-small b r.holds));
+    words = let now = word b.core.pending b.core.stopped (pending-small b r.holds) in
+        grind (arith, r.words, now);
     homes = r.homes;
     owner = r.owner;
     seats = fits-set _ _ _ (ViewFits d r.owner) (still id m.0 (r.seats id m.0 mine))
@@ -95,8 +95,7 @@ worker-allowed key slots id m s f to after worker word sizes st r deep mine fit 
       before = b;
       holds = r.holds;
       sizes = same;
-      may = worker b _ ∙ (ap (λ z. core.is_worker b.core (z.nodes + k)) (sym same)
-          ∙ worker-may b k ((r.seats id m.0 mine).worker k q));
+      may = grind (arith, worker b, same, worker-may b k ((r.seats id m.0 mine).worker k q));
       kept = subst Holds (sym (after b _)) holds;
       word = ap (λ l. get_or l 0 0) r.words;
     }),

@@ -20,36 +20,18 @@ fn noted(i: usize, word: u64) -> u64
 type AnySeat = Seat<Option<Chunk>, View>;
 
 impl ExecTable {
-    // Takes the seat's node to the root.
-    fn lend(&self, root: &mut AnySeat, seat: &mut NodeSeat)
-        requires root { root.old.table_id ≡ self.now.table.shared.table_id }
-        requires seat { IsSeatOf (identity_of self.now) seat.old }
-        ensures root { (root.new.table_id ≡ root.old.table_id)
-            × (root.new.me ≡ (
-              joined_views root.old.me.0
-                  (just_first seat.old.seat.me.0),
-              root.old.me.1,
-            )) }
-        ensures seat { IsLent seat.old seat.new }
+    // Moves the first node of a seat to another seat.
+    fn move_node(&self, from: &mut AnySeat, to: &mut AnySeat)
+        requires from { from.old.table_id ≡ self.now.table.shared.table_id }
+        requires to { to.old.table_id ≡ self.now.table.shared.table_id }
+        requires node { (x : NodeView) × (xs : List NodeView) × (from.old.me.0.nodes ≡ x ∷ xs) }
+        ensures from { (from.new.table_id ≡ from.old.table_id)
+            × (from.new.me ≡ (without_first_node from.old.me.0, from.old.me.1)) }
+        ensures to { (to.new.table_id ≡ to.old.table_id)
+            × (to.new.me ≡ (joined_views to.old.me.0 (just_first from.old.me.0), to.old.me.1)) }
     {
-        let piece = self.table.shared.split_seat::<Peel>(&mut seat.seat);
-        self.table.shared.join_seat::<Gather>(root, piece);
-    }
-
-    // Gives the root's first node back.
-    fn give_back(&self, root: &mut AnySeat, seat: &mut NodeSeat)
-        requires root { root.old.table_id ≡ self.now.table.shared.table_id }
-        requires seat { seat.old.seat.table_id ≡ self.now.table.shared.table_id }
-        requires node { (x : NodeView) × (xs : List NodeView) × (root.old.me.0.nodes ≡ x ∷ xs) }
-        ensures root { (root.new.table_id ≡ root.old.table_id)
-            × (root.new.me ≡ (without_first_node root.old.me.0, root.old.me.1)) }
-        ensures seat { (seat.new.seat.table_id ≡ seat.old.seat.table_id)
-            × (seat.new.seat.me
-            ≡ (joined_views seat.old.seat.me.0 (just_first root.old.me.0), seat.old.seat.me.1))
-            × (seat.new.node ≡ seat.old.node) × (seat.new.held ≡ seat.old.held) }
-    {
-        let piece = self.table.shared.split_seat::<Peel>(root);
-        self.table.shared.join_seat::<Gather>(&mut seat.seat, piece);
+        let piece = self.table.shared.split_seat::<Peel>(from);
+        self.table.shared.join_seat::<Gather>(to, piece);
     }
 
     // Reads each word, but for the stop bit. While the root has every node, none of them changes.
@@ -79,7 +61,7 @@ impl ExecTable {
         ensures many { length seats.new ≡ length seats.old }
     {
         for i in 0..seats.len() {
-            self.lend(root, &mut seats[i]);
+            self.move_node(&mut seats[i].seat, root);
         }
     }
 
@@ -95,7 +77,7 @@ impl ExecTable {
         self.gather(&mut root, seats);
         self.note(&mut root, words);
         for i in 0..seats.len() {
-            self.give_back(&mut root, &mut seats[i]);
+            self.move_node(&mut root, &mut seats[i].seat);
         }
     }
 }

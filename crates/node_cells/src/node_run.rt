@@ -1,7 +1,8 @@
 //! A worker runs a node: turn after turn, until its cell may go home.
-ghost use Rattle.std.specs.Prelude.{IfErr, IfOk};
+ghost use Rattle.std.specs.Prelude.{◌<◌, IfErr, IfOk};
 ghost use Rattle.exec_table.specs.Seats.{identity_of};
 ghost use Rattle.task_queue.specs.Queues.{IsPassOf};
+ghost use Rattle.task_queue.specs.Tasks.{IsOffered};
 ghost use Rattle.node_cells.specs.Stops.{stop_of};
 ghost use Rattle.node_cells.specs.Turns.{Fetches, FollowsAnswer, GoesOn, IsAtWork, IsCarried, IsDue, IsPrepared, IsStopped, KeepsProcessor, Queues, RunEndHolds, Stays, TakesTurns};
 ghost use Rattle.node_cells.specs.Visits.{Resumes};
@@ -27,6 +28,30 @@ pub enum RunEnd {
     Waits,
 }
 
+/// Whether a worker goes on with a peer once this node rests: with one behind it, for which a chunk
+/// may be in its cache. Nodes are numbered from the sources on.
+fn goes_on(node: u32, peer: u32, status: Status) -> bool {
+    node < peer
+        && match status {
+            Status::NeedData | Status::PortFull | Status::Finished => true,
+            Status::Ready | Status::Async | Status::ExpandPipeline => false,
+        }
+}
+
+/// Offers a node that was charged.
+fn offer_peer<R: Wait>(rt: &R, queue: &TaskQueue, tasks: &mut WorkerTasks, n: u32, goes_on: bool)
+    requires pass { IsPassOf queue.now tasks.old.pass }
+    requires few { n < 256 }
+    ensures pass { IsPassOf queue.now tasks.new.pass }
+    ensures offered { IsOffered queue.now n tasks.old tasks.new }
+{
+    if goes_on {
+        tasks.offer_next(rt, queue, n);
+    } else {
+        tasks.offer(rt, queue, n);
+    }
+}
+
 /// Carries out all that waits in the view, and offers each node that was charged to the queue.
 fn carry_all<P: Processor, R: Wait>(
     rt: &R,
@@ -48,7 +73,9 @@ fn carry_all<P: Processor, R: Wait>(
         match carry(table, cell, status) {
             Carry::Done => return,
             Carry::Told => {}
-            Carry::Charged(n) => tasks.offer(rt, queue, n),
+            Carry::Charged(n) => {
+                offer_peer(rt, queue, tasks, n, goes_on(cell.seat.node, n, status));
+            }
         }
     }
     unreachable!()

@@ -1,5 +1,5 @@
 -- The numbers that a worker keeps.
-use Rattle.std.proofs.Common.{List, [], append-nil, append_assoc, false, refl, slice_index_or, subst, suc, sym, zero, ℕ, ◌++◌, ◌∷◌, ◌≡◌}
+use Rattle.std.proofs.Common.{arith, Bool, List, [], append-nil, append_assoc, false, refl, slice_index_or, slice_set, subst, suc, sym, zero, ℕ, ◌++◌, ◌==◌, ◌∷◌, ◌≡◌}
 use Rattle.std.proofs.Math.ListN.{replicate}
 use Rattle.task_queue.specs.Tasks.{AreOffered, OffersNumbers, offered_more, offered_none}
 use Rattle.task_queue.specs.declared.queue.TaskQueue.{TaskQueue}
@@ -10,6 +10,17 @@ pub none-set : (k n : ℕ) → slice_index_or (replicate k false) n false ≡ fa
 none-set zero n = refl
 none-set (suc k) zero = refl
 none-set (suc k) (suc n) = none-set k n
+
+-- where no place but one may be set, none is once that isn't
+pub only-unset : (l : List Bool) (n : ℕ)
+    → ((m : ℕ) → (n == m) ≡ false → slice_index_or l m false ≡ false)
+    → (m : ℕ) → slice_index_or (slice_set l n false) m false ≡ false
+only-unset [] n alone m = refl
+only-unset (b ∷ l) zero alone zero = refl
+only-unset (b ∷ l) zero alone (suc m) = alone (suc m) (grind (arith))
+only-unset (b ∷ l) (suc n) alone zero = alone zero (grind (arith))
+only-unset (b ∷ l) (suc n) alone (suc m) = only-unset l n
+    (λ k e. alone (suc k) (grind (arith, e))) m
 
 -- numbers that were offered after others
 pub offered-after : {q : TaskQueue} {a b : WorkerTasks} {ns : List ℕ} → AreOffered q a ns b

@@ -34,10 +34,16 @@ pub record IsGivenBack (q : TaskQueue) (n : ℕ) (old new : WorkerTasks) : Type 
   pub kept : KeepsNumber n old new
   pub full : WasAt (capacity_of q) old.pass
 
+-- nothing was kept, and n stays with the worker, which goes on with it
+pub record IsGoingOn (n : ℕ) (old new : WorkerTasks) : Type 0 where
+  pub bare : KeepsNone old
+  pub put : put_by new.pass ≡ put_by old.pass
+  pub kept : KeepsNumber n old new
+
 -- n was put into the queue or is kept, and nothing that was kept is lost
 pub record IsOffered (q : TaskQueue) (n : ℕ) (old new : WorkerTasks) : Type 0 where
   pub taken : taken_through new.pass ≡ taken_through old.pass
-  pub went : IsPut n old new ⊎ IsGivenBack q n old new
+  pub went : IsPut n old new ⊎ (IsGivenBack q n old new ⊎ IsGoingOn n old new)
 
 -- each of the numbers was put or is kept, in their order
 pub data AreOffered (q : TaskQueue) (old : WorkerTasks) : List ℕ → WorkerTasks → Type 0 where

@@ -1,5 +1,5 @@
-//! What a worker has of a queue: its pass, and the numbers that the queue had no room for.
-ghost use Rattle.std.specs.Prelude.{◌≡◌, ℕ, ◌<◌, false, IfNone, IfSome, slice_index_or};
+//! What a worker has of a queue: its pass, and the numbers that are its own.
+ghost use Rattle.std.specs.Prelude.{◌≡◌, ◌==◌, ℕ, ◌<◌, false, IfNone, IfSome, None, Some, slice_index_or};
 ghost use Rattle.task_queue.specs.Queues.{IsPassOf};
 
 use crate::queue::{QueuePass, TaskQueue};
@@ -8,15 +8,19 @@ use std::sync::Wait;
 /// How many numbers a worker can keep, counted from 0.
 const MOST_KEPT: u32 = 256;
 
-/// The pass of a worker, and the numbers that a full queue gave back. They stay with that worker,
-/// which takes them first, so that no worker waits for room in the queue.
+/// The pass of a worker, and the numbers that it keeps and takes first: those that a full queue
+/// gave back, so that no worker waits for room in the queue, and the one that it is to go on with.
 #[derive(Drop)]
 pub struct WorkerTasks {
     pub pass: QueuePass,
     pub kept: [bool; 256],
-    // Whether a number may be kept: mostly none is, and the places aren't looked through.
+    // Whether a number may be kept, and where it is one alone, which: mostly none or one is, and the
+    // places aren't looked through.
     pub any: bool,
+    pub only: Option<u32>,
     ghost bare: { any ≡ false → (n : ℕ) → slice_index_or kept n false ≡ false },
+    ghost alone: { (k : ℕ) → only ≡ Some k → (n : ℕ) → (k == n) ≡ false
+        → slice_index_or kept n false ≡ false },
 }
 
 impl WorkerTasks {
@@ -31,6 +35,7 @@ impl WorkerTasks {
             pass,
             kept: [false; 256],
             any: false,
+            only: None,
         }
     }
 
@@ -39,6 +44,7 @@ impl WorkerTasks {
         ensures pass { self.new.pass ≡ self.old.pass }
         ensures keeps { KeepsNumber n self.old self.new }
     {
+        self.only = if self.any { None } else { Some(n) };
         self.any = true;
         self.kept[n as usize] = true;
     }
@@ -68,6 +74,36 @@ impl WorkerTasks {
         }
     }
 
+    /// The same for a number with which this worker is to go on: it stays with it where none does,
+    /// and nobody is woken for it.
+    pub fn offer_next<R: Wait>(&mut self, rt: &R, queue: &TaskQueue, n: u32)
+        requires pass { IsPassOf queue.now self.old.pass }
+        requires few { n < 256 }
+        ensures pass { IsPassOf queue.now self.new.pass }
+        ensures offered { IsOffered queue.now n self.old self.new }
+    {
+        if self.any {
+            self.offer(rt, queue, n);
+        } else {
+            self.keep(n);
+        }
+    }
+
+    // The number that is kept alone, if it is.
+    fn take_only(&mut self, n: u32) -> Option<u32>
+        requires only { self.old.only ≡ Some n }
+        requires few { n < 256 }
+        ensures pass { self.new.pass ≡ self.old.pass }
+        ensures some { IfSome result (λ n. LetsGo n self.old self.new) }
+        ensures none { IfNone result (KeepsNone self.old × KeepsNone self.new) }
+    {
+        self.any = false;
+        self.only = None;
+        let is_kept = self.kept[n as usize];
+        self.kept[n as usize] = false;
+        if is_kept { Some(n) } else { None }
+    }
+
     // The first number that is kept.
     fn next_kept(&mut self) -> Option<u32>
         ensures pass { self.new.pass ≡ self.old.pass }
@@ -77,6 +113,18 @@ impl WorkerTasks {
         if !self.any {
             return None;
         }
+        match self.only {
+            Some(n) if n < MOST_KEPT => self.take_only(n),
+            _ => self.first_kept(),
+        }
+    }
+
+    // The first of the numbers that are kept.
+    fn first_kept(&mut self) -> Option<u32>
+        ensures pass { self.new.pass ≡ self.old.pass }
+        ensures some { IfSome result (λ n. LetsGo n self.old self.new) }
+        ensures none { IfNone result (KeepsNone self.old × KeepsNone self.new) }
+    {
         for n in 0..MOST_KEPT {
             if self.kept[n as usize] {
                 self.kept[n as usize] = false;
@@ -84,6 +132,7 @@ impl WorkerTasks {
             }
         }
         self.any = false;
+        self.only = None;
         None
     }
 

@@ -21,17 +21,17 @@ loop-preserved-in-Told g c = (
   queues-silent c.loop.invariant.3 carry.Told _ c.carry.ensures.carries c.in-Told.is refl,
 )
 
-pub offer-requires-clause-few : goal.offer-requires-clause-few
-offer-requires-clause-few g c =
+pub offer_peer-requires-clause-few : goal.offer_peer-requires-clause-few
+offer_peer-requires-clause-few g c =
     let i = charged-inside (identity_of c.args.table.now) (cell_ports c.loop.cell) _ _ _ _
     c.carry.ensures.carries c.in-Charged.is in
     let f = few-nodes (sizes_in c.args.table.now) c.args.table.now.fit in omega (arith, i, f)
 
 pub loop-preserved : goal.loop-preserved
 loop-preserved g c = (
-  c.offer.ensures.pass,
+  c.offer_peer.ensures.pass,
   c.carry.ensures.prepared,
   search rules,
   queues-charged c.loop.invariant.3 _ _ _ c.carry.ensures.carries c.in-Charged.is
-      c.offer.ensures.offered,
+      c.offer_peer.ensures.offered,
 )

@@ -1,4 +1,4 @@
-use Rattle.exec_table.proofs.Imports.{IsBack, IsLent, ap, arith, drop, first_or_none, get_or, identity_of, rest_of, view, views, ◌+◌, ◌∙◌}
+use Rattle.exec_table.proofs.Imports.{IsBack, IsLent, ap, arith, first_or_none, get_or, identity_of, refl, rest_of, ◌∙◌}
 use Rattle.exec_table.proofs.Surveying.{all-there, at-now, each-all, each-next, enter-allowed, is-back, left-views}
 use Rattle.exec_table.proofs.rule.ExecTable.survey.Goals as goal
 
@@ -17,36 +17,28 @@ loop-i-init c = record {
       (x.0, x.1, (λ l. absurd (omega arith)), (λ _. x.2));
 }
 
-pub give_back-requires-clause-seat : goal.give_back-requires-clause-seat
-give_back-requires-clause-seat c = let many = c.loop-i.auto.seats in
-    let test = c.loop-i-test.true in
-    let x = c.loop-i.invariant.seats _ _ (at-now c.loop-i.seats c.loop-i.i
-    c.index-seats-i.result (omega arith) c.index-seats-i.is) in
-    (x.3 (omega arith)).0 ∙ (c.requires.seats.1 _ x.0 x.1).0.table
-
-pub give_back-requires-clause-node : goal.give_back-requires-clause-node
-give_back-requires-clause-node c = let many = c.loop-i.auto.seats in
-    let test = c.loop-i-test.true in
+pub move_node-requires : goal.move_node-requires
+move_node-requires c = let many = c.loop-i.auto.seats in let test = c.loop-i-test.true in
     let i = c.loop-i.i in let x = c.loop-i.invariant.seats _ _ (at-now c.loop-i.seats i
-    c.index-seats-i.result (omega arith) c.index-seats-i.is) in (
-      view x.0,
-      views (drop (i + 1) c.args.seats.now),
-      c.loop-i.invariant.nodes ∙ left-views c.args.seats.now i x.0 x.1,
-    )
+    c.index-seats-i.result (omega arith) c.index-seats-i.is) in record {
+      from = c.loop-i.invariant.table;
+      to = (x.3 (omega arith)).0 ∙ (c.requires.seats.1 _ x.0 x.1).0.table;
+      node = (_, _, c.loop-i.invariant.nodes ∙ left-views c.args.seats.now i x.0 x.1);
+    }
 
 pub loop-i-preserved : goal.loop-i-preserved
 loop-i-preserved c = let many = c.loop-i.auto.seats in let test = c.loop-i-test.true in
     let inv = c.loop-i.invariant in let i = c.loop-i.i in let seats = c.args.seats.now in
     let now = get_or c.loop-i.seats i c.index-seats-i.result in
     let x = inv.seats i now (at-now c.loop-i.seats i c.index-seats-i.result (omega arith)
-    c.index-seats-i.is) in let did = c.give_back.ensures in
+    c.index-seats-i.is) in let did = c.move_node.ensures in
     let first = inv.nodes ∙ left-views seats i x.0 x.1 in record {
-      table = did.root.0 ∙ inv.table;
-      nodes = ap (λ m. m.0.nodes) did.root.1 ∙ ap rest_of first;
+      table = did.from.0 ∙ inv.table;
+      nodes = ap (λ m. m.0.nodes) did.from.1 ∙ ap rest_of first;
       seats = each-next (IsBack (identity_of c.args.self.now)) IsLent seats c.loop-i.seats i x.0
-          c.give_back.new.seat x.1 (is-back _ x.0 now c.give_back.new.seat
-          c.loop-i.root.me.0 (c.requires.seats.1 i x.0 x.1).0 (x.3 (omega arith))
-          (ap first_or_none first) did.seat.0 did.seat.1 did.seat.2 did.seat.3) inv.seats;
+          (record now { seat = c.move_node.new.to }) x.1 (is-back _ x.0 now _ c.loop-i.root.me.0
+          (c.requires.seats.1 i x.0 x.1).0 (x.3 (omega arith)) (ap first_or_none first) did.to.0
+          did.to.1 refl refl) inv.seats;
     }
 
 pub returns-clause-seats : goal.returns-clause-seats

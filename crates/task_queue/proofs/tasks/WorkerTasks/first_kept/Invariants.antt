@@ -1,5 +1,5 @@
 use Rattle.std.proofs.Common.{◌≡◌, ℕ, ◌<◌, false, slice_index_or}
-use Rattle.task_queue.proofs.tasks.WorkerTasks.next_kept.Given as goal
+use Rattle.task_queue.proofs.tasks.WorkerTasks.first_kept.Given as goal
 
 abbrev pub invariant-loop-n : goal.invariant-loop-n
 invariant-loop-n l = (l.self ≡ l.initial.self)
