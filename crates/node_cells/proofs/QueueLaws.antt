@@ -5,7 +5,7 @@ use Rattle.node_cells.specs.declared.stop_cause.StopCause.{StopCause}
 use Rattle.node_ports.specs.Peers.{CarriesNext}
 use Rattle.node_ports.specs.declared.actions.Carry.{Carry}
 use Rattle.node_ports.specs.declared.actions.Carry.TheVariants as carry
-use Rattle.task_queue.specs.Tasks.{AreOffered, IsOffered, OffersNumbers, offered_more, offered_none}
+use Rattle.task_queue.specs.Tasks.{AreOffered, IsOffered, OffersNumbers, SharesNumber, offered_more, offered_none, offered_shared}
 use Rattle.proc_api.specs.declared.status.Status.{Status}
 use Rattle.task_queue.proofs.KeptNumbers.{offers-both, offers-none}
 use Rattle.task_queue.specs.declared.queue.TaskQueue.{TaskQueue}
@@ -14,6 +14,16 @@ use Rattle.task_queue.specs.declared.tasks.WorkerTasks.{WorkerTasks}
 pub queues-none : {P : Type 0} (t : Identity) (q : TaskQueue) (c : NodeCell P) (w : WorkerTasks)
     → Queues t q c c w w
 queues-none t q c w = record { charged = _; charges = charges_none; offered = offered_none }
+
+-- a number that was kept may be put into the queue afterwards
+pub queues-shared : {P : Type 0} {t : Identity} {q : TaskQueue} {old new : NodeCell P}
+    {before between after : WorkerTasks} → Queues t q old new before between
+    → SharesNumber between after → Queues t q old new before after
+queues-shared h shares = record {
+  charged = h.charged;
+  charges = h.charges;
+  offered = offered_shared h.offered shares;
+}
 
 module _ {P : Type 0} {t : Identity} {q : TaskQueue} {old mid : NodeCell P}
     {before between : WorkerTasks} (h : Queues t q old mid before between) {r : Carry} where

@@ -2,7 +2,7 @@
 ghost use Rattle.std.specs.Prelude.{◌<◌, IfErr, IfOk};
 ghost use Rattle.exec_table.specs.Seats.{identity_of};
 ghost use Rattle.task_queue.specs.Queues.{IsPassOf};
-ghost use Rattle.task_queue.specs.Tasks.{IsOffered};
+ghost use Rattle.task_queue.specs.Tasks.{IsOffered, SharesNumber};
 ghost use Rattle.node_cells.specs.Stops.{stop_of};
 ghost use Rattle.node_cells.specs.Turns.{Fetches, FollowsAnswer, GoesOn, IsAtWork, IsCarried, IsDue, IsPrepared, IsStopped, KeepsProcessor, Queues, RunEndHolds, Stays, TakesTurns};
 ghost use Rattle.node_cells.specs.Visits.{Resumes};
@@ -28,14 +28,30 @@ pub enum RunEnd {
     Waits,
 }
 
+/// Whether a node that answered so rests or is over, unless a port changes meanwhile.
+fn is_done_for_now(status: Status) -> bool {
+    match status {
+        Status::NeedData | Status::PortFull | Status::Finished => true,
+        Status::Ready | Status::Async | Status::ExpandPipeline => false,
+    }
+}
+
 /// Whether a worker goes on with a peer once this node rests: with one behind it, for which a chunk
 /// may be in its cache. Nodes are numbered from the sources on.
 fn goes_on(node: u32, peer: u32, status: Status) -> bool {
-    node < peer
-        && match status {
-            Status::NeedData | Status::PortFull | Status::Finished => true,
-            Status::Ready | Status::Async | Status::ExpandPipeline => false,
-        }
+    node < peer && is_done_for_now(status)
+}
+
+/// The worker has a call of this node's processor to make: a node with which it was to go on is
+/// left to the others.
+fn share_before_calls<R: Wait>(rt: &R, queue: &TaskQueue, tasks: &mut WorkerTasks, status: Status)
+    requires pass { IsPassOf queue.now tasks.old.pass }
+    ensures pass { IsPassOf queue.now tasks.new.pass }
+    ensures shares { SharesNumber tasks.old tasks.new }
+{
+    if !is_done_for_now(status) {
+        tasks.share_next(rt, queue);
+    }
 }
 
 /// Offers a node that was charged.
@@ -71,7 +87,10 @@ fn carry_all<P: Processor, R: Wait>(
 {
     for _ in rt.forever() {
         match carry(table, cell, status) {
-            Carry::Done => return,
+            Carry::Done => {
+                share_before_calls(rt, queue, tasks, status);
+                return;
+            }
             Carry::Told => {}
             Carry::Charged(n) => {
                 offer_peer(rt, queue, tasks, n, goes_on(cell.seat.node, n, status));

@@ -22,10 +22,18 @@ use task_queue::{Bell, Holding, Placed, Shelf, ShelfSeat, TaskQueue, WorkerTasks
 /// The most workers that a run has.
 const MOST_WORKERS: usize = 16;
 
-/// How many visits in a row a worker makes to nodes that go on with their devices between two naps.
-/// A file of 64 MB is read in so many blocks, and a reader that has nothing is looked at as often
-/// in a millisecond or less. A million looks, after which it is given up, take about a second.
-const LOOKS_BETWEEN_NAPS: u32 = 1024;
+/// How many visits in a row a worker makes to nodes that go on with their devices before it naps. A
+/// file of 32 MB is read in so many blocks.
+const LOOKS_BEFORE_NAPS: u32 = 512;
+
+/// How many such visits it makes between two naps. A reader that has nothing is looked at as often
+/// in a twelfth of a millisecond or less.
+const LOOKS_BETWEEN_NAPS: u32 = 64;
+
+/// A nap takes a microsecond for so many looks that came before it. So a file of 200 MB that is
+/// read alone is read a hundredth slower, and a reader that has nothing for a second costs less
+/// than a tenth of a processor. A million looks, after which it is given up, take some 16 seconds.
+const LOOKS_A_MICROSECOND: u32 = 10;
 
 /// What all workers share: the table, the numbers of nodes that are due, and the cells.
 #[derive(Drop)]
@@ -41,17 +49,16 @@ pub struct Worker<P: Processor, J: Naming> {
     pub seat: WorkerSeat,
     pub tasks: WorkerTasks,
     pub shelf: ShelfSeat<NamedCell<P, J>>,
-    /// At how many nodes in a row it found a device that has nothing yet, since its last nap.
+    /// At how many nodes in a row it found a device that has nothing yet.
     pub looks: u32,
 }
 
-/// Counts a look at a device that has nothing yet, and naps after so many in a row.
+/// Counts a look at a device that has nothing yet, and naps now and then after many in a row, the
+/// longer the more they are.
 fn nap_between_looks<R: Wait>(rt: &R, bell: &Bell, looks: &mut u32) {
-    if *looks < LOOKS_BETWEEN_NAPS {
-        *looks += 1;
-    } else {
-        *looks = 0;
-        bell.nap(rt);
+    *looks = looks.saturating_add(1);
+    if *looks > LOOKS_BEFORE_NAPS && *looks % LOOKS_BETWEEN_NAPS == 0 {
+        bell.nap(rt, (*looks - LOOKS_BEFORE_NAPS) / LOOKS_A_MICROSECOND);
     }
 }
 

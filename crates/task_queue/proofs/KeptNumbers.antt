@@ -1,7 +1,7 @@
 -- The numbers that a worker keeps.
 use Rattle.std.proofs.Common.{arith, Bool, List, [], append-nil, append_assoc, false, refl, slice_index_or, slice_set, subst, suc, sym, zero, ℕ, ◌++◌, ◌==◌, ◌∷◌, ◌≡◌}
 use Rattle.std.proofs.Math.ListN.{replicate}
-use Rattle.task_queue.specs.Tasks.{AreOffered, OffersNumbers, offered_more, offered_none}
+use Rattle.task_queue.specs.Tasks.{AreOffered, OffersNumbers, offered_more, offered_none, offered_shared}
 use Rattle.task_queue.specs.declared.queue.TaskQueue.{TaskQueue}
 use Rattle.task_queue.specs.declared.tasks.WorkerTasks.{WorkerTasks}
 
@@ -30,6 +30,7 @@ offered-after {q} {a} {b} {ns} h offered_none = subst (λ l. AreOffered q a l b)
 offered-after {q} {a} {b} {ns} h (offered_more {ns = ms} {n} {mid} {new} k o) =
     subst (λ l. AreOffered q a l new) (append_assoc ns ms (n ∷ []))
     (offered_more (offered-after h k) o)
+offered-after h (offered_shared k o) = offered_shared (offered-after h k) o
 
 pub offers-none : (q : TaskQueue) (a : WorkerTasks) → OffersNumbers q a a
 offers-none q a = ([], offered_none)

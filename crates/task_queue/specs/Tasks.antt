@@ -45,11 +45,28 @@ pub record IsOffered (q : TaskQueue) (n : ℕ) (old new : WorkerTasks) : Type 0 
   pub taken : taken_through new.pass ≡ taken_through old.pass
   pub went : IsPut n old new ⊎ (IsGivenBack q n old new ⊎ IsGoingOn n old new)
 
--- each of the numbers was put or is kept, in their order
+-- n was kept, and is in the queue now
+pub record IsShared (n : ℕ) (old new : WorkerTasks) : Type 0 where
+  pub put : put_by new.pass ≡ put_by old.pass ++ n ∷ []
+  pub kept : LetsGo n old new
+
+-- nothing was put, and what is kept is the same
+pub record StaysKept (old new : WorkerTasks) : Type 0 where
+  pub put : put_by new.pass ≡ put_by old.pass
+  pub kept : KeepsSameNumbers old new
+
+-- a number that was kept was put into the queue, or none was
+pub record SharesNumber (old new : WorkerTasks) : Type 0 where
+  pub taken : taken_through new.pass ≡ taken_through old.pass
+  pub went : StaysKept old new ⊎ ((n : ℕ) × IsShared n old new)
+
+-- each of the numbers was put or is kept, in their order; of those that were kept some were put
 pub data AreOffered (q : TaskQueue) (old : WorkerTasks) : List ℕ → WorkerTasks → Type 0 where
   offered_none : AreOffered q old [] old
   offered_more : {ns : List ℕ} {n : ℕ} {mid new : WorkerTasks} → AreOffered q old ns mid
       → IsOffered q n mid new → AreOffered q old (ns ++ n ∷ []) new
+  offered_shared : {ns : List ℕ} {mid new : WorkerTasks} → AreOffered q old ns mid
+      → SharesNumber mid new → AreOffered q old ns new
 
 -- numbers were offered, and that is all
 abbrev pub OffersNumbers : TaskQueue → WorkerTasks → WorkerTasks → Type 0

@@ -5,10 +5,10 @@ use std::time::Duration;
 
 /// The longest sleep, in milliseconds. Who is woken or wakes by itself looks again, so that no run
 /// rests on a ring.
-const LONGEST_SLEEP: u64 = 2;
+const LONGEST_SLEEP: u64 = 4;
 
-/// The longest nap, in microseconds. To fall asleep and wake costs up to nine.
-const LONGEST_NAP: u64 = 400;
+/// The longest nap, in microseconds.
+const LONGEST_NAP: u64 = 1_000;
 
 /// How many counts a sleep can tell from each other.
 const COUNTS: u64 = 4_294_967_296;
@@ -56,9 +56,11 @@ impl Bell {
         self.sleep_for(rt, count, Duration::from_millis(LONGEST_SLEEP));
     }
 
-    /// Sleeps for a moment, where there is nothing to do but to look at devices once more.
-    pub fn nap<R: Wait>(&self, rt: &R) {
-        self.sleep_for(rt, self.count(), Duration::from_micros(LONGEST_NAP));
+    /// Sleeps for so many microseconds, or the longest nap, where there is nothing to do but to
+    /// look at devices once more.
+    pub fn nap<R: Wait>(&self, rt: &R, micros: u32) {
+        let nap = Duration::from_micros(LONGEST_NAP.min(micros as u64));
+        self.sleep_for(rt, self.count(), nap);
     }
 
     fn sleep_for<R: Wait>(&self, rt: &R, count: u32, longest: Duration) {

@@ -1,5 +1,5 @@
 //! What a worker has of a queue: its pass, and the numbers that are its own.
-ghost use Rattle.std.specs.Prelude.{◌≡◌, ◌==◌, ℕ, ◌<◌, false, IfNone, IfSome, None, Some, slice_index_or};
+ghost use Rattle.std.specs.Prelude.{◌≡◌, ◌==◌, ◌&&◌, ℕ, ◌<◌, false, not, IfNone, IfSome, None, Some, slice_index_or};
 ghost use Rattle.task_queue.specs.Queues.{IsPassOf};
 
 use crate::queue::{QueuePass, TaskQueue};
@@ -14,8 +14,8 @@ const MOST_KEPT: u32 = 256;
 pub struct WorkerTasks {
     pub pass: QueuePass,
     pub kept: [bool; 256],
-    // Whether a number may be kept, and where it is one alone, which: mostly none or one is, and the
-    // places aren't looked through.
+    // Whether a number may be kept, and where it is one alone, which: mostly none or one is, and
+    // the places aren't looked through.
     pub any: bool,
     pub only: Option<u32>,
     ghost bare: { any ≡ false → (n : ℕ) → slice_index_or kept n false ≡ false },
@@ -24,7 +24,7 @@ pub struct WorkerTasks {
 }
 
 impl WorkerTasks {
-    ghost use Rattle.task_queue.specs.Tasks.{GivesTask, IsOffered, KeepsNone, KeepsNumber, LetsGo};
+    ghost use Rattle.task_queue.specs.Tasks.{GivesTask, IsOffered, KeepsNone, KeepsNumber, LetsGo, SharesNumber, keeps};
 
     /// A worker's pass, with no number that is kept.
     pub fn new(pass: QueuePass) -> WorkerTasks
@@ -89,6 +89,51 @@ impl WorkerTasks {
         }
     }
 
+    /// Puts a number with which this worker was to go on into the queue, where others find it, and
+    /// wakes one who sleeps: the worker has work of its own first.
+    pub fn share_next<R: Wait>(&mut self, rt: &R, queue: &TaskQueue)
+        requires pass { IsPassOf queue.now self.old.pass }
+        ensures pass { IsPassOf queue.now self.new.pass }
+        ensures shares { SharesNumber self.old self.new }
+    {
+        match self.only {
+            Some(n) if n < MOST_KEPT => self.share_only(rt, queue, n),
+            _ => {}
+        }
+    }
+
+    fn share_only<R: Wait>(&mut self, rt: &R, queue: &TaskQueue, n: u32)
+        requires pass { IsPassOf queue.now self.old.pass }
+        requires only { self.old.only ≡ Some n }
+        requires few { n < 256 }
+        ensures pass { IsPassOf queue.now self.new.pass }
+        ensures shares { SharesNumber self.old self.new }
+    {
+        if !self.kept[n as usize] {
+            return;
+        }
+        match queue.put(rt, &mut self.pass, n) {
+            Ok(()) => {
+                self.let_go(n);
+                queue.bell.ring();
+            }
+            Err(_) => {}
+        }
+    }
+
+    // The number that is kept alone, if it is, is kept no more.
+    fn let_go(&mut self, n: u32)
+        requires only { self.old.only ≡ Some n }
+        requires few { n < 256 }
+        ensures pass { self.new.pass ≡ self.old.pass }
+        ensures none { KeepsNone self.new }
+        ensures left { (m : ℕ) → keeps self.new m ≡ not (n == m) && keeps self.old m }
+    {
+        self.any = false;
+        self.only = None;
+        self.kept[n as usize] = false;
+    }
+
     // The number that is kept alone, if it is.
     fn take_only(&mut self, n: u32) -> Option<u32>
         requires only { self.old.only ≡ Some n }
@@ -97,10 +142,8 @@ impl WorkerTasks {
         ensures some { IfSome result (λ n. LetsGo n self.old self.new) }
         ensures none { IfNone result (KeepsNone self.old × KeepsNone self.new) }
     {
-        self.any = false;
-        self.only = None;
         let is_kept = self.kept[n as usize];
-        self.kept[n as usize] = false;
+        self.let_go(n);
         if is_kept { Some(n) } else { None }
     }
 

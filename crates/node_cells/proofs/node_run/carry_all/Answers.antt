@@ -1,6 +1,6 @@
 use Rattle.node_cells.proofs.Imports.{arith, identity_of, refl, rules}
 use Rattle.node_cells.proofs.ChargeLaws.{charged-inside, few-nodes}
-use Rattle.node_cells.proofs.QueueLaws.{queues-charged, queues-none, queues-silent}
+use Rattle.node_cells.proofs.QueueLaws.{queues-charged, queues-none, queues-shared, queues-silent}
 use Rattle.exec_table.specs.Seats.{sizes_in}
 use Rattle.node_cells.specs.Cells.{cell_ports}
 use Rattle.node_ports.specs.declared.actions.Carry.TheVariants as carry
@@ -10,8 +10,8 @@ pub loop-init : goal.loop-init
 loop-init g c = (c.requires.pass, c.requires.cell, search rules, queues-none _ _ _ _)
 
 pub returns-in-Done-clause-queued : goal.returns-in-Done-clause-queued
-returns-in-Done-clause-queued g c = queues-silent c.loop.invariant.3 carry.Done _
-    c.carry.ensures.carries c.in-Done.is refl
+returns-in-Done-clause-queued g c = queues-shared (queues-silent c.loop.invariant.3 carry.Done _
+    c.carry.ensures.carries c.in-Done.is refl) c.share_before_calls.ensures.shares
 
 pub loop-preserved-in-Told : goal.loop-preserved-in-Told
 loop-preserved-in-Told g c = (

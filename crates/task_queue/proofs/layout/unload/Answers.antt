@@ -1,4 +1,4 @@
-use Rattle.task_queue.proofs.Imports.{AllFit, None, Some, [], ap, arith, dite, false, get_elem?, get_or, get_or-set_other, get_or-set_same, length, length-append, set, slots_counts, slots_filled, some-injective, subst, sym, true, ℕ_discrete, ◌∙◌, ◌∷◌, ◌≡◌}
+use Rattle.task_queue.proofs.Imports.{AllFit, None, Some, [], ap, arith, dite, false, get_elem?, get_or, get_or-set_other, get_or-set_same, length, length-append, set, slots_counts, slots_filled, some-injective, subst, sym, ℕ_discrete, ◌∙◌, ◌∷◌, ◌≡◌}
 use Rattle.task_queue.proofs.SlotValues.{AllFit-push}
 use Rattle.task_queue.proofs.layout.unload.Goals as goal
 

@@ -1,5 +1,5 @@
 use Rattle.task_queue.proofs.KeptNumbers.{only-unset}
-use Rattle.task_queue.proofs.tasks.WorkerTasks.take_only.Goals as goal
+use Rattle.task_queue.proofs.tasks.WorkerTasks.let_go.Goals as goal
 
 pub invariant_of-self : goal.invariant_of-self
 invariant_of-self c =
