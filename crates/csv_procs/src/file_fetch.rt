@@ -1,3 +1,4 @@
+ghost use Rattle.std.specs.Prelude.{◌≡◌, ◌+◌, nat_lt};
 ghost use Rattle.csv_procs.specs.Names.{FetchGives, IsAfter, IsSome};
 
 use crate::feeds::Feeds;
@@ -17,6 +18,14 @@ pub enum Fetched {
     Pending,
 }
 
+// Whether so many bytes held and so many more are more than the limit.
+fn passes_limit(held: usize, more: usize, limit: u64) -> bool
+    ensures { result ≡ nat_lt limit (held + more) }
+{
+    let held = held as u64;
+    held > limit || more as u64 > limit - held
+}
+
 /// Makes one read of at most 65,536 bytes, and adds what it gave to the held bytes.
 ///
 /// The held bytes never pass the limit; after a fault they are as they were.
@@ -29,11 +38,11 @@ pub fn fetch<F: Feeds>(reader: &mut F, held: &mut Bytes, limit: u64) -> Result<F
     let mut buffer = [0; BLOCK];
     match reader.read_block(&mut buffer) {
         Ok(Got::Bytes(n)) => {
-            let had = held.len() as u64;
-            if had > limit || n as u64 > limit - had {
+            let block = &buffer[..n];
+            if passes_limit(held.len(), block.len(), limit) {
                 return Err(WorkFault::TooLong);
             }
-            match held.extend_from_slice(&buffer[..n]) {
+            match held.extend_from_slice(block) {
                 Ok(()) => Ok(Fetched::More),
                 Err(_) => Err(WorkFault::Memory),
             }

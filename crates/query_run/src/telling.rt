@@ -2,6 +2,7 @@ ghost use Rattle.std.specs.Prelude.{◌≡◌, ◌≤◌, ◌++◌, ◌∷◌, [
 ghost use Rattle.outside_io.specs.Counts.{CountIncreased};
 ghost use Rattle.query_run.specs.declared.ending.PlanFailure.TheVariants as plan;
 ghost use Rattle.query_run.specs.declared.ending.PartFailure.TheVariants as part;
+ghost use Rattle.proc_api.specs.KindRows.{kind_name};
 ghost use Rattle.query_run.specs.Endings.{text_line, query_line, refused_line, part_words, place_words, field_words, plan_line, failure_line, piece_bytes, TellsLine, Writes};
 
 use crate::ending::{Failure, PartFailure, PartName, PlanFailure, Refused};
@@ -9,6 +10,7 @@ use itoa::Buffer;
 use outside_io::{Sink, WriteFault, write_all};
 use proc_api::kind_row;
 use query_model::places::{BadField, BadPlace};
+use query_model::processor_spec::Kind;
 use query_model::query::Refusal;
 use sql_text::ParseRefusal;
 
@@ -136,7 +138,7 @@ fn plan_pieces(failure: &PlanFailure) -> Line<'_>
         ],
         PlanFailure::Stock(short) => [
             LinePiece::Text(b"qrun: limit: boxes of kind "),
-            LinePiece::Text(kind_row(short.kind).name),
+            LinePiece::Text(name_of(&short.kind)),
             LinePiece::Text(b" needed "),
             LinePiece::Number(short.needed as u64),
             LinePiece::Text(b", rack has "),
@@ -148,7 +150,7 @@ fn plan_pieces(failure: &PlanFailure) -> Line<'_>
         ],
         PlanFailure::Part(name, failure) => part_pieces(name, *failure),
         PlanFailure::Unlawful(kind) => {
-            named(b"qrun: limit: unlawful box of kind ", kind_row(*kind).name)
+            named(b"qrun: limit: unlawful box of kind ", name_of(kind))
         }
         PlanFailure::Memory => named(b"qrun: out of memory", b""),
     }
@@ -273,4 +275,11 @@ fn query_line(refusal: &Refusal) -> (&'static [u8], &[u8])
         Refusal::TooWide => (b"qrun: refused: TooWide", b""),
         Refusal::Memory => (b"qrun: out of memory", b""),
     }
+}
+
+// A kind's name, at the lifetime of the line that has it.
+fn name_of(kind: &Kind) -> &[u8]
+    ensures { result.now ≡ kind_name kind.now }
+{
+    kind_row(*kind).name
 }
