@@ -93,6 +93,7 @@ fn next_worker<P: Processor, J: Naming>(
         tasks: WorkerTasks::new(shared.queue.pass(&mut from.tasks.pass)),
         shelf: shared.shelf.seat_with_room(&mut from.shelf, held),
         looks: 0,
+        is_lying: false,
     }
 }
 
@@ -146,6 +147,7 @@ fn part_workers<P: Processor, J: Naming>(
             tasks: _,
             shelf,
             looks: _,
+            is_lying: _,
         } = worker;
         seats.push_reserved(seat);
         shelf_seats.push_reserved(shelf);
@@ -258,6 +260,7 @@ fn run_named<P: Processor, J: Naming, R: Threads + Wait + Sync>(
                 tasks,
                 shelf: shelf_seat,
                 looks: 0,
+                is_lying: false,
             };
             let workers = make_workers(&shared, &mut root, first, held, workers);
             let rooms = EndRooms {

@@ -51,6 +51,8 @@ pub struct Worker<P: Processor, J: Naming> {
     pub shelf: ShelfSeat<NamedCell<P, J>>,
     /// At how many nodes in a row it found a device that has nothing yet.
     pub looks: u32,
+    /// Whether it lies, to be woken by the queue's bell.
+    pub is_lying: bool,
 }
 
 /// Counts a look at a device that has nothing yet, and naps now and then after many in a row, the
@@ -150,6 +152,23 @@ fn visit<P: Processor, J: Naming, R: Wait>(
     }
 }
 
+fn get_up(bell: &Bell, is_lying: &mut bool) {
+    if *is_lying {
+        *is_lying = false;
+        bell.get_up();
+    }
+}
+
+/// Lies down, to look once more, or sleeps where it lay for its last look.
+fn lie_down_or_sleep<R: Wait>(rt: &R, bell: &Bell, count: u32, is_lying: &mut bool) {
+    if *is_lying {
+        bell.sleep(rt, count);
+    } else {
+        *is_lying = true;
+        bell.lie_down();
+    }
+}
+
 /// Takes the next number and visits its node. A number that is no place is passed over. Says
 /// whether there was a number.
 fn visit_next<P: Processor, J: Naming, R: Wait>(
@@ -164,6 +183,7 @@ fn visit_next<P: Processor, J: Naming, R: Wait>(
 {
     match worker.tasks.next(rt, &shared.queue) {
         Some(n) => {
+            get_up(&shared.queue.bell, &mut worker.is_lying);
             if (n as usize) < shared.shelf.table.slot_count() {
                 visit(rt, shared, worker, n);
             }
@@ -199,7 +219,7 @@ pub fn run_worker<P: Processor, J: Naming, R: Wait>(
         if visit_next(rt, shared, worker) {
             backoff.reset();
         } else if backoff.is_completed() {
-            bell.sleep(rt, count);
+            lie_down_or_sleep(rt, bell, count, &mut worker.is_lying);
         } else {
             backoff.snooze();
         }

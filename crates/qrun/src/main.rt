@@ -17,6 +17,7 @@ use outside_io::{RealFiles, RealSink, Sink};
 use proc_api::Rack;
 use query_model::processor_spec::Kind;
 use query_run::run;
+use std::alloc::Global;
 use std::env;
 use std::io::ErrorKind;
 use std::process::ExitCode;
@@ -26,7 +27,14 @@ use std::thread::Threads;
 /// The exit status where memory ran out.
 const OUT_OF_MEMORY: u8 = 7;
 
+/// The size in bytes of a block that is made and given back at the start. The library of C maps
+/// each large block anew and gives it back to the system, until a block was given back that is at
+/// most 32 MiB with what it adds: those that aren't larger it keeps from then on. So the memory of
+/// a chunk serves the next one, and its pages needn't be made again.
+const LARGEST_KEPT: usize = (32 << 20) - (64 << 10);
+
 fn main(rt: HostRuntime) -> ExitCode {
+    keep_freed_blocks(rt.alloc());
     match status_of(&rt, &rt) {
         Ok(status) => ExitCode::from(status),
         Err(Memory) => {
@@ -34,6 +42,11 @@ fn main(rt: HostRuntime) -> ExitCode {
             ExitCode::from(OUT_OF_MEMORY)
         }
     }
+}
+
+// Where there is no room for the block nothing is lost but speed.
+fn keep_freed_blocks(alloc: Global) {
+    let _ = Vec::<u8>::with_capacity(alloc, LARGEST_KEPT);
 }
 
 fn status_of<R: AllocGlobal + Threads + Wait + Sync>(
