@@ -8,7 +8,7 @@ use std::time::Duration;
 const LONGEST_SLEEP: u64 = 4;
 
 /// The longest nap, in microseconds.
-const LONGEST_NAP: u64 = 1_000;
+const LONGEST_NAP: u64 = 3_000;
 
 /// How many counts a sleep can tell from each other.
 const COUNTS: u64 = 4_294_967_296;
