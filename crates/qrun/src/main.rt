@@ -27,11 +27,11 @@ use std::thread::Threads;
 /// The exit status where memory ran out.
 const OUT_OF_MEMORY: u8 = 7;
 
-/// The size in bytes of a block that is made and given back at the start. The library of C maps each
-/// block from 128 KiB on anew, and gives such blocks and as much free room at the end of its heap
-/// back to the system, until a larger block was given back, by which it then goes. So the memory of
-/// a chunk serves the next one, and its pages needn't be made again. Larger blocks, such as those
-/// that files are read into, are better mapped: they grow without being copied.
+/// The size in bytes of a block that is made and given back at the start. The library of C maps
+/// each block from 128 KiB on anew, and gives such blocks and as much free room at the end of its
+/// heap back to the system, until a larger block was given back, by which it then goes. So the
+/// memory of a chunk serves the next one, and its pages needn't be made again. Larger blocks, such
+/// as those that files are read into, are better mapped: they grow without being copied.
 const LARGEST_KEPT: usize = 1 << 20;
 
 fn main(rt: HostRuntime) -> ExitCode {
