@@ -33,7 +33,10 @@ module _ (x y : ReaderState) (after : IsAfter x y) (lists : Bool) (part : PartSp
       omega (arith, front.given_is, long, sum, more.within) in
       noting _ (Fetching grown) wake.Later n'
       (omega (arith, given, front.given_is, long, sum)) noted (
-        inl (omega (arith, given, front.given_is, long, sum, more.reads.some)),
+        record {
+          within = omega (arith, given, front.given_is, long, sum, more.reads.bound);
+          some = inl (omega (arith, given, front.given_is, long, sum, more.reads.some));
+        },
         record {
           shut = λ e. absurd (cc);
           front = λ e e'. record {
@@ -73,12 +76,12 @@ module _ (x y : ReaderState) (after : IsAfter x y) (lists : Bool) (part : PartSp
           → StepsTo x.files b part (Fetching held) n s n wake.Ready
           × MatchesReader x.files y.position b part (stage_in part s) n.given n.pendings
       comes false (Rows r) w = (
-        record { bytes = held; are = is-file; whole = w },
+        (record { bytes = held; are = is-file; whole = w }, refl),
         tie false (Rows r) refl refl (ap (λ c. bad_place (c + 1) part.types r.rest) w.1
             ∙ ap (bad_place 1 part.types) w.0),
       )
       comes true (Paths l) w = (
-        record { bytes = held; are = is-file; whole = w },
+        (record { bytes = held; are = is-file; whole = w }, refl),
         tie true (Paths l) refl refl (w.0, w.1),
       )
       comes b s w = absurd w

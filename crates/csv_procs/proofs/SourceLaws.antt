@@ -163,25 +163,25 @@ module _ (d e : ReaderState) (count : RowCount) (lists : Bool) (part' : PartSpec
       step-made false (Fetching held) (Rows r) wake.Ready refl ins outs t (record {
         before = λ e. absurd (cc);
         fetched = λ e. record {
-          bytes = x.bytes;
-          are = told-bytes told part'.path x.bytes x.are;
+          bytes = x.0.bytes;
+          are = told-bytes told part'.path x.0.bytes x.0.are;
           rows_are =
               ap (λ l. l ++ good_rows part'.types r.rest) (t.rows.before refl).no_rows
-              ∙ ap (good_rows part'.types) x.whole.0;
-          bad = ap (λ c. bad_place (c + 1) part'.types r.rest) x.whole.1
-              ∙ ap (bad_place 1 part'.types) x.whole.0;
+              ∙ ap (good_rows part'.types) x.0.whole.0;
+          bad = ap (λ c. bad_place (c + 1) part'.types r.rest) x.0.whole.1
+              ∙ ap (bad_place 1 part'.types) x.0.whole.0;
         };
       })
-  step-rows false (Fetching held) s' wake.Ready x ins outs t = absurd x.whole
+  step-rows false (Fetching held) s' wake.Ready x ins outs t = absurd x.0.whole
   step-rows true Shut (Fetching held) wake.Later x ins outs t =
       list-step Shut (Fetching held) wake.Later refl refl (knows-nothing held wake.Later) ins outs t
   step-rows true (Fetching held) (Fetching grown) wake.Later x ins outs t =
       list-step (Fetching held) (Fetching grown) wake.Later refl refl
       (knows-nothing grown wake.Later) ins outs t
   step-rows true (Fetching held) (Paths l) wake.Ready x ins outs t =
-      list-step (Fetching held) (Paths l) wake.Ready refl (sym (ap rows_if_some x.whole.3))
-      (knows-list l wake.Ready x) ins outs t
-  step-rows true (Fetching held) s' wake.Ready x ins outs t = absurd x.whole
+      list-step (Fetching held) (Paths l) wake.Ready refl (sym (ap rows_if_some x.0.whole.3))
+      (knows-list l wake.Ready x.0) ins outs t
+  step-rows true (Fetching held) s' wake.Ready x ins outs t = absurd x.0.whole
   step-rows b s s' a x ins outs t = absurd x
 
   -- no end is noted
@@ -200,13 +200,15 @@ module _ (d e : ReaderState) (count : RowCount) (lists : Bool) (part' : PartSpec
   step-facts : (s s' : FileState) (a : Wake) → StepsTo told lists part' s n s' noted a
       → (lists_in lists s' ≡ lists) × ((Q lists s' (Ok a)).growth ≡ (P lists s).growth)
       × WakeComes a (P lists s) (Q lists s' (Ok a))
-  step-facts Shut (Fetching held) wake.Later x = (refl, refl, inl (refl, refl))
-  step-facts (Fetching held) (Fetching grown) wake.Later x = (refl, refl, inr x)
+  step-facts Shut (Fetching held) wake.Later x =
+      (refl, refl, inl (record { shut = refl; opened = refl; nothing = x }))
+  step-facts (Fetching held) (Fetching grown) wake.Later x =
+      (refl, refl, inr (record { opened = refl; within = x.within; some = x.some }))
   step-facts (Fetching held) s' wake.Ready x =
-      let w = whole-file lists part'.header x.bytes s' x.whole in (
+      let w = whole-file lists part'.header x.0.bytes s' x.0.whole in (
         w.0,
         ap (λ g. cond g (spec_growth (csv_spec lists part') (paths_of s')) None) w.1,
-        (refl, w.2),
+        record { opened = refl; unfetched = refl; fetched = w.2; nothing = x.1 },
       )
   step-facts s s' a x = absurd x
 

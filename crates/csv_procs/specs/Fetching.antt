@@ -1,5 +1,5 @@
 -- What a schedule of a source does, and what ties its part to its reader.
-use Rattle.std.specs.Prelude.{◌-◌, ◌<◌, ◌≡◌, ◌≤◌, ◌⊎◌}
+use Rattle.std.specs.Prelude.{◌+◌, ◌-◌, ◌<◌, ◌≡◌, ◌≤◌, ◌⊎◌}
 use Rattle.csv_procs.specs.Prelude.{Bool, CountIncreased, Err, Fetched, Fetching, FileState, IfSome, IsSome, List, LoadedShell, None, Notes, Ok, Option, PartSpec, Paths, Result, Rows, Shut, Some, SourceStage, Spec, StandsAtEnd, Wake, WorkFault, bad_line_in, bad_place, false, length, part_records, paths_in, raised, told_bytes, true, ℕ}
 use Rattle.query_model.specs.declared.processor_spec.Spec.TheVariants as spec
 use Rattle.csv_procs.specs.declared.file_fetch.Fetched.TheVariants as fetched
@@ -83,13 +83,18 @@ pub record IsRead (told : ToldFiles) (lists : Bool) (part : PartSpec) (s : FileS
   pub are : IsFile told part.path bytes
   pub whole : IsWholeFile lists part.header bytes s
 
+-- a block was read, or the reader was pending
+pub record NotesBlock (n n' : Notes) : Type 0 where
+  pub within : n'.given ≤ n.given + 65536
+  pub some : (n.given < n'.given) ⊎ (n.pendings < n'.pendings)
+
 -- a step of the fetch, by its answer
 abbrev pub StepsTo : ToldFiles → Bool → PartSpec → FileState → Notes → FileState → Notes → Wake
     → Type 0
-StepsTo told lists part Shut n (Fetching held) n' wake.Later = Unit {0}
-StepsTo told lists part (Fetching held) n (Fetching grown) n' wake.Later =
-    (n.given < n'.given) ⊎ (n.pendings < n'.pendings)
-StepsTo told lists part (Fetching held) n s' n' wake.Ready = IsRead told lists part s'
+StepsTo told lists part Shut n (Fetching held) n' wake.Later = n'.given ≡ n.given
+StepsTo told lists part (Fetching held) n (Fetching grown) n' wake.Later = NotesBlock n n'
+StepsTo told lists part (Fetching held) n s' n' wake.Ready =
+    IsRead told lists part s' × (n'.given ≡ n.given)
 StepsTo told lists part s n s' n' _ = ⊥
 
 -- within the limits

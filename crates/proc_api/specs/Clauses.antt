@@ -269,12 +269,30 @@ pub record Works (p q : BoxPicture) : Type 0 where
   pub keeps : IsTrue p.lawful → KeepsSame p q
   pub progresses : IsTrue p.lawful → Progresses p q
 
--- a source wakes later where it opened its path, fetched a byte, or its reader was pending, and is
--- ready where it has read its file's end
+-- a step opens the path of its source, and reads nothing of it
+pub record OpensPath (p q : BoxPicture) : Type 0 where
+  pub shut : p.work.opened ≡ false
+  pub opened : q.work.opened ≡ true
+  pub nothing : q.notes.given ≡ p.notes.given
+
+-- a step reads one block at most of a path that was opened before, or its reader was pending
+pub record FetchesBlock (p q : BoxPicture) : Type 0 where
+  pub opened : p.work.opened ≡ true
+  pub within : q.notes.given ≤ p.notes.given + 65536
+  pub some : (p.notes.given < q.notes.given) ⊎ (p.notes.pendings < q.notes.pendings)
+
+-- a step reads the end of a path that was opened before
+pub record FetchesEnd (p q : BoxPicture) : Type 0 where
+  pub opened : p.work.opened ≡ true
+  pub unfetched : p.work.fetched ≡ false
+  pub fetched : q.work.fetched ≡ true
+  pub nothing : q.notes.given ≡ p.notes.given
+
+-- A source wakes later where it opened its path, fetched a byte, or its reader was pending, and is
+-- ready where it has read its file's end. An executor may make several steps in a row.
 abbrev pub WakeComes : Wake → BoxPicture → BoxPicture → Type 0
-WakeComes wake.Later p q = ((p.work.opened ≡ false) × (q.work.opened ≡ true))
-    ⊎ ((p.notes.given < q.notes.given) ⊎ (p.notes.pendings < q.notes.pendings))
-WakeComes wake.Ready p q = (p.work.fetched ≡ false) × (q.work.fetched ≡ true)
+WakeComes wake.Later p q = OpensPath p q ⊎ FetchesBlock p q
+WakeComes wake.Ready p q = FetchesEnd p q
 
 -- a schedule without a fault
 pub record Schedules (a : Wake) (p q : BoxPicture) : Type 0 where
