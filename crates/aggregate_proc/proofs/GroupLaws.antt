@@ -1,5 +1,5 @@
 -- The rows of a group table are the groups of its rows.
-use Rattle.aggregate_proc.proofs.Imports.{All, AllByRecursion, AreCalls, AreKeyValues, AreLong, Call, Column, ColumnType, FitsColumn, FoldColumn, Folding, GroupsMore, HasKeyFirst, HasKeyAt, IsGroupTable, IsGroupTableOf, Row, GroupTableView, append-nil, argument_at, cases_eq, combined, count_up, distinct, distinct_rows, first_key_column, folded, folded_at, folding_of, foldings_of, get_or-map, group_column, group_keys, grouped_by, insert_key, key_code, key_foldings, key_of, plain_types_at, length-append, length-map, length-rows_of, list_any, list_any-append, map-append, map-map, merged_groups, merged_groups_is, places_from, recursion_from_All, row_code, group_table_rows, rows_of, rows_with, same_code, same_row, same_row_is, value_at, values, with_rows, AreLong-made, rows_of-made, codes-keys, places-keys, every-append, common_steps, Bool, List, [], ap, append_assoc, ap₂, arith, filter, fold, length, map, refl, subst, suc, sym, true, zero, ℕ, ◌++◌, ◌<◌, ◌∙◌, ◌∷◌, ◌≡◌, ◌≤◌, get_or_append_left, nil_from_length}
+use Rattle.aggregate_proc.proofs.Imports.{All, AllByRecursion, AreCalls, AreKeyValues, AreLong, Call, Column, ColumnType, FitsColumn, FoldColumn, Folding, GroupsMore, HasKeyFirst, HasKeyAt, IsGroupTable, IsGroupTableOf, Row, GroupTableView, append-nil, argument_at, cases_eq, combined, count_up, distinct, distinct_rows, folded, folded_at, folding_of, foldings_of, get_or-map, group_column, group_keys, grouped_by, insert_key, key_code, key_foldings, key_of, plain_types_at, length-append, length-map, length-rows_of, list_any, list_any-append, map-append, map-map, merged_groups, merged_groups_is, places_from, recursion_from_All, row_code, group_table_rows, rows_of, rows_with, same_code, same_row, same_row_is, value_at, values, with_rows, AreLong-made, rows_of-made, codes-keys, places-keys, every-append, common_steps, Bool, List, [], ap, append_assoc, ap₂, arith, filter, fold, length, map, refl, subst, suc, sym, true, zero, ℕ, ◌++◌, ◌<◌, ◌∙◌, ◌∷◌, ◌≡◌, ◌≤◌, nil_from_length}
 use Rattle.aggregate_proc.proofs.Classes.{any-distinct, class-more, distinct-more, filter-some, list_any-map}
 use Rattle.aggregate_proc.proofs.FoldLaws.{earlier-first}
 use Rattle.aggregate_proc.proofs.ListLaws.{all-distinct, map-same}

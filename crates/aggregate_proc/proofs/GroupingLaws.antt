@@ -1,5 +1,5 @@
 -- A grouping keeps what its kind says of the chunks that it worked.
-use Rattle.aggregate_proc.proofs.Imports.{All, AllByRecursion, AreGrouped, AreInputsOver, ArePortsOf, Begins, ColumnType, FitsTypes, GroupSpec, GroupsMore, HasNotedEnd, IsAtMost, IsNextOfGroups, IsPermutation-append_left, IsPermutation-same, IsPermutation-trans, IsGroupTableFor, Lists, Makes, MakesTypes, Means, NotesGroupsEnd, Offer, OfferComes, Offers, OwnState, Picture, Reading, Row, Table, GroupTableView, Takes, all-more, append-nil, calls_for, chunk_rows, distinct, eqb-true, gathering_own, giving_own, spec_group_types, grouped_by, groups_for, in_count, key_of, fold_types, length-append, length-drop, length-take, most_rows, no-rows, no_lists, open_for, recursion_from_All, rows-here, group_table_rows, aggregate_spec, take-append-drop, types_for, unread, whole_for, with_chunk, worked_rows, every-append, EndIsNoted, Spec, Bool, IsPermutation, List, None, Some, [], ap, append_assoc, arith, drop, drop-drop, false, inl, inr, length, max, refl, subst, sym, take, true, ℕ, ◌++◌, ◌+◌, ◌<◌, ◌∙◌, ◌≡◌, ◌≤◌, ◌⊎◌}
+use Rattle.aggregate_proc.proofs.Imports.{All, AllByRecursion, AreGrouped, AreInputsOver, ArePortsOf, Begins, ColumnType, FitsGroups, FitsInput, FitsTypes, GroupSpec, GroupsMore, HasNotedEnd, IsAtMost, IsNextOfGroups, IsPermutation-append_left, IsPermutation-same, IsPermutation-trans, IsGroupTableFor, Lists, Makes, MakesTypes, Means, NotesGroupsEnd, Offer, OfferComes, Offers, OwnState, Picture, Reading, Row, Table, GroupTableView, Takes, all-more, append-nil, calls_for, chunk_rows, distinct, drops-misfit, eqb-true, gathering_own, giving_own, idle_own, spec_group_types, grouped_by, groups_for, in_count, key_of, fold_types, length-append, length-drop, length-take, most_rows, no-rows, no_lists, open_for, recursion_from_All, rows-here, group_table_rows, aggregate_spec, take-append-drop, types_for, unread, whole_for, with_chunk, worked_rows, every-append, EndIsNoted, Spec, Bool, IsPermutation, List, None, Some, [], ap, append_assoc, arith, drop, drop-drop, false, inl, inr, length, max, refl, subst, sym, take, true, ℕ, ◌++◌, ◌+◌, ◌<◌, ◌∙◌, ◌≡◌, ◌≤◌, ◌⊎◌}
 use Rattle.aggregate_proc.proofs.CallLaws.{calls-are, given-whole, groups-by}
 use Rattle.proc_shell.specs.declared.kernel.Offer.TheVariants as offer
 
@@ -24,6 +24,10 @@ record IsGroupKind (merges : Bool) (g : GroupSpec) : Type 0 where
       → EndIsNoted (Some (aggregate_spec merges g)) own i
   noting : (own : OwnState) (i : ℕ) → EndIsNoted (Some (aggregate_spec merges g)) own i → own.ended
       ≡ true
+  fits : (i : ℕ) (types : List ColumnType) → FitsGroups g (types_for merges g) types
+      → FitsInput (Some (aggregate_spec merges g)) i types
+  fitting : (i : ℕ) (types : List ColumnType) → FitsInput (Some (aggregate_spec merges g)) i types
+      → FitsGroups g (types_for merges g) types
   types : (ins : Lists) (types : List ColumnType) → types ≡ spec_group_types g
       → MakesTypes (Some (aggregate_spec merges g)) ins types
   size : (n : ℕ) → n ≤ max g.rows 1 → IsAtMost (most_rows (Some (aggregate_spec merges g))) n
@@ -83,6 +87,24 @@ module _ (merges : Bool) (g : GroupSpec) where
     unended = λ i n. absurd (let e = is.noting (table_own t) i n in cc);
   }
 
+  -- where no chunk fits it has no groups
+  pub begins-dropping : Begins s s idle_own
+  begins-dropping = record {
+    spec = refl;
+    nothing = λ files. is.into (unread files) idle_own no_lists no_lists [] (record {
+      gathering = λ e. record {
+        nothing_made = refl;
+        nothing_unmade = refl;
+        order = [];
+        same = IsPermutation-same _ _ (none-worked merges);
+        fit = tt;
+        groups_are = sym (none-grouped merges g);
+      };
+      grouped = λ e. absurd (cc);
+    });
+    unended = λ i n. absurd (let e = is.noting idle_own i n in cc);
+  }
+
   -- ---- a chunk more
 
   more-groups : (old new : GroupTableView) (more : List Row) → IsGroupTableFor merges g old
@@ -117,10 +139,16 @@ module _ (merges : Bool) (g : GroupSpec) where
           };
           grouped = λ e. absurd (cc);
         });
+    fits = inl (is.fits i t.types (record { types_are = same ∙ h.types; summed = h.summed }));
     types = λ ins pulled. tt;
     sizes = tt;
     ends = λ j n. absurd (let e = is.noting (table_own new) j n in cc);
   }
+
+  -- a chunk of other types is dropped, and every chunk where texts are summed
+  pub drops : (own : OwnState) (i : ℕ) (t : Table)
+      → (FitsGroups g (types_for merges g) t.types → ⊥) → Takes s own i t own None
+  drops own i t never = drops-misfit s own i t (λ fits. never (is.fitting i t.types fits))
 
   -- ---- the end
 

@@ -2,7 +2,7 @@
 pub use Rattle.chunk_data.proofs.Laws.{AreLong-made, rows_of-made}
 pub use Rattle.key_codes.proofs.KeyLaws.{codes-keys, places-keys}
 pub use Rattle.proc_api.proofs.Orders.{every-append}
-pub use Rattle.proc_api.specs.Names.{Reading}
+pub use Rattle.proc_api.specs.Names.{FitsGroups, Reading, idle_own}
 pub use Rattle.proc_api.specs.SpecContracts.{NotesEnd as EndIsNoted}
 pub use Rattle.std.proofs.Common.{Bool, IfOk, IsPermutation, List, None, SFits, Some, [], ap, append_assoc, ap₂, arith, cond, drop, drop-drop, false, filter, fold, get_or, inl, inr, length, map, max, min, not, of_z, pos, refl, rules, set, subst, suc, sym, take, to_z, true, w64, zero, ℕ, ℤ, ◌%◌, ◌++◌, ◌+ℤ◌, ◌+◌, ◌-◌, ◌<◌, ◌^◌, ◌||◌, ◌∙◌, ◌∷◌, ◌≡◌, ◌≢◌, ◌≤◌, ◌⊎◌}
 pub use Rattle.std.proofs.lemmas.Grind.{common_steps}
@@ -21,8 +21,8 @@ pub use Rattle.chunk_data.specs.declared.typed_column.Column.{Column}
 pub use Rattle.indexmap.specs.IndexSet.{insert_key}
 pub use Rattle.key_codes.specs.Keys.{AreKeyValues, HasKey as HasKeyAt, IsSeenFor, codes_in, first_key_column, key_at, key_code, places_from, plain_types_at, row_code, same_code}
 pub use Rattle.proc_api.specs.Grouped.{argument_types, calls_from, default_states, merged_states, spec_group_types}
-pub use Rattle.proc_shell.proofs.Imports.{ArePortsOf, HasNotedEnd, IsAtMost, IsPulled, Lists, MakesTypes, OwnState, Picture, Spec, cases_eq, cases_lt, chunk_rows, eqb-true, in_count, input_at, is_in_finished, most_rows, no-rows, no_lists, out_count}
-pub use Rattle.proc_shell.proofs.Through.{all-more, makes-nothing, rows-here}
+pub use Rattle.proc_shell.proofs.Imports.{ArePortsOf, FitsInput, HasNotedEnd, IsAtMost, IsPulled, Lists, MakesTypes, OwnState, Picture, Spec, cases_eq, cases_lt, chunk_rows, eqb-true, in_count, input_at, is_in_finished, most_rows, no-rows, no_lists, out_count}
+pub use Rattle.proc_shell.proofs.Through.{all-more, drops-misfit, makes-nothing, rows-here}
 pub use Rattle.proc_shell.specs.Kernels.{AreInputsOver, Begins, Makes, Means, OfferComes, Offers, Reads, Takes, unread, with_chunk}
 pub use Rattle.query_model.proofs.Aggregates.{combined-merge, greater-comm}
 pub use Rattle.query_model.proofs.Distinct.{IsSame}

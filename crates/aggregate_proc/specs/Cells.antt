@@ -1,5 +1,5 @@
 -- The values of a column of a group table, and which of them a column may fold.
-use Rattle.std.specs.Prelude.{◌≡◌, ◌≢◌, ◌<◌, Bool, true, false, List, length, map, not, slice_index_or}
+use Rattle.std.specs.Prelude.{◌≡◌, ◌≢◌, ◌<◌, Bool, true, List, length, map, not, slice_index_or}
 use Rattle.aggregate_proc.specs.Prelude.{ColumnType, Value}
 use Rattle.chunk_data.specs.Values.{is_plain_text, is_plain_uint}
 use Rattle.chunk_data.specs.declared.typed_value.PlainType.{PlainType}

@@ -1,7 +1,7 @@
 -- What the processors that group are loaded with and keep: a partial aggregate, and a merge.
 use Rattle.std.specs.Prelude.{◌≡◌, ℕ, suc, ◌<◌, ◌≤◌, ◌==◌, ◌&&◌, ◌||◌, cond, Bool, true, false, List, [], ◌∷◌, ◌++◌, drop, length, map}
 use Rattle.chunk_data.specs.Values.{plain_type}
-use Rattle.aggregate_proc.specs.Prelude.{AggOp, All, Call, ColumnType, GroupSpec, KernelState, Kind, Lists, Offer, OwnState, Row, Spec, StateCall, Table, all_rows, call_of, calls_from, chunk_rows, combine_of, default_states, groups_or_default, idle_own, is_count, kernel_of, merged_rows, merged_states, partial_rows, partial_types, spec_group_types, state_calls}
+use Rattle.aggregate_proc.specs.Prelude.{AggOp, All, Call, ColumnType, GroupSpec, KernelState, Kind, Lists, Offer, OwnState, Row, Spec, StateCall, SumsNoTexts, Table, all_rows, call_of, calls_from, chunk_rows, combine_of, default_states, groups_or_default, idle_own, is_count, kernel_of, merged_rows, merged_states, partial_rows, partial_types, spec_group_types, state_calls}
 use Rattle.query_model.specs.declared.query.AggOp.TheVariants as agg
 use Rattle.query_model.specs.declared.processor_spec.Kind.TheVariants as kind
 use Rattle.query_model.specs.declared.processor_spec.Spec.TheVariants as spec
@@ -106,18 +106,23 @@ giving_own rows = record idle_own { unmade = rows; ended = true }
 abbrev pub phase_own : Bool → GroupSpec → Phase → OwnState
 phase_own merges g (phase.Gathering t) =
     gathering_own (record { types = fold_types t; rows = group_table_rows t })
+phase_own merges g phase.Dropping = idle_own
+phase_own merges g phase.Empty = giving_own (given_for merges g [])
 phase_own merges g (phase.Ended t) = giving_own (given_for merges g (group_table_rows t))
 phase_own merges g (phase.Giving chunk next) = giving_own (drop next chunk.rows)
 phase_own merges g phase.Failed = giving_own []
 
--- the table is that of the spec
+-- the table is that of the spec, which sums no texts
 pub record IsGroupTableFor (merges : Bool) (g : GroupSpec) (t : GroupTableView) : Type 0 where
+  pub summed : SumsNoTexts g
   pub types : t.types ≡ types_for merges g
   pub keys : t.keys ≡ length g.keys
   pub foldings : foldings_of t ≡ foldings_for merges g
 
 abbrev pub IsGroupPhase : Bool → GroupSpec → Phase → Type 0
 IsGroupPhase merges g (phase.Gathering t) = IsGroupTableFor merges g t
+IsGroupPhase merges g phase.Dropping = SumsNoTexts g → ⊥
+IsGroupPhase merges g phase.Empty = Unit {0}
 IsGroupPhase merges g (phase.Ended t) = IsGroupTableFor merges g t
 IsGroupPhase merges g (phase.Giving chunk next) =
     (chunk.types ≡ spec_group_types g) × (next ≤ length chunk.rows)

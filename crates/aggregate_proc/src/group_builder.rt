@@ -1,7 +1,8 @@
-ghost use Rattle.std.specs.Prelude.{◌≡◌, ◌≤◌, ◌++◌, true, [], length, map, IsTrue, IfOk, OnOk};
+ghost use Rattle.std.specs.Prelude.{false, ◌↔◌, ◌≡◌, ◌≤◌, ◌++◌, true, [], length, map, IsTrue, IfOk, OnOk};
 ghost use Rattle.std.specs.List.{All};
 ghost use Rattle.aggregate_proc.specs.Cells.{FitsColumn};
 ghost use Rattle.aggregate_proc.specs.GroupKinds.{AreSound, call_foldings, empty_column, fold_of as the_fold, fold_for as the_fold_for, IsGroupTableFor, types_for};
+ghost use Rattle.aggregate_proc.specs.Prelude.{StateCall, SumsNoTexts, sums_texts};
 ghost use Rattle.aggregate_proc.specs.Tables.{group_table_rows, key_foldings};
 
 use crate::fold::{Fold, FoldColumn, can_fold};
@@ -33,7 +34,7 @@ fn fold_for(merges: bool, op: AggOp) -> Fold
     }
 }
 
-/// Whether each count is a UInt64 and no text is summed.
+/// Whether each count is a UInt64, where no text is summed.
 pub(crate) fn are_sound(calls: &[StateCall]) -> bool
     ensures { IsTrue result → AreSound calls.now }
 {
@@ -43,6 +44,23 @@ pub(crate) fn are_sound(calls: &[StateCall]) -> bool
         }
     }
     true
+}
+
+// Whether the call doesn't sum texts.
+fn sums_no_text(call: &StateCall) -> bool
+    ensures { IsTrue result ↔ (sums_texts call.now ≡ false) }
+{
+    match call.op {
+        AggOp::Sum => !call.kind.is_text(),
+        AggOp::Count | AggOp::Min | AggOp::Max => true,
+    }
+}
+
+/// Whether no call sums texts.
+pub(crate) fn sum_no_texts(calls: &[StateCall]) -> bool
+    ensures { IsTrue result ↔ All (λ (call : StateCall). sums_texts call ≡ false) calls.now }
+{
+    calls.iter().all(|call| sums_no_text(call))
 }
 
 // Whether each column folds a column of its type.
@@ -113,7 +131,8 @@ pub(crate) fn new_table(
     merges: bool,
     group: &GroupSpec,
 ) -> Result<GroupTable, Memory>
-    requires { AreSound group.now.calls }
+    requires sound { AreSound group.now.calls }
+    requires summed { SumsNoTexts group.now }
     ensures table { IfOk result (λ t. IsGroupTableFor merges group.now t) }
     ensures rows { IfOk result (λ t. group_table_rows t ≡ []) }
 {

@@ -7,7 +7,7 @@ ghost use Rattle.proc_shell.specs.Kernels.{AreInputsOver, Begins, Makes};
 ghost use Rattle.aggregate_proc.specs.GroupKinds.{giving_own, given_for, IsNextOfGroups, IsGroupTableFor, NotesGroupsEnd, grouping_own, aggregate_spec};
 ghost use Rattle.aggregate_proc.specs.Tables.{group_table_rows};
 
-use crate::group_builder::{are_sound, new_table};
+use crate::group_builder::{are_sound, new_table, sum_no_texts};
 use crate::group_table::GroupTable;
 use crate::phase::Phase;
 use chunk_data::{Chunk, Column, ColumnType, List, Memory, PlainType};
@@ -21,9 +21,9 @@ use std::mem::replace;
 
 /// Folds the rows of its input into groups to the end, and then gives a row a group: its key and
 /// the state of each call. A chunk has at most the rows that its spec states, and one at least. It
-/// keeps all groups in memory, takes chunks of other types than its spec's as if they had no rows,
-/// and refuses a spec that sums texts or counts in another type than UInt64, or that has keys
-/// without GROUP BY. Want of memory faults it, and it then gives no rows.
+/// keeps all groups in memory, and takes chunks of other types than its spec's, or all chunks where
+/// that sums texts, as if they had no rows. It refuses a spec that counts in another type than
+/// UInt64, or that has keys without GROUP BY. Want of memory faults it, and it then gives no rows.
 pub type PartialAggregate = Shell<Grouping<SingleRows>>;
 
 /// Merges the groups of all its inputs to their ends, and then gives them; without GROUP BY and
@@ -156,13 +156,23 @@ fn whole_chunk(
 }
 
 impl<G: Grouped> Grouping<G> {
-    // Without groups. A spec that sums texts, or whose counts aren't UInt64, is refused.
+    // Without groups. A spec whose counts aren't UInt64 is refused.
     fn begun(alloc: Global, group: GroupSpec) -> Result<Grouping<G>, Memory>
         ensures { IfOk result
             (λ k. Begins (aggregate_spec G.merges group) (aggregate_spec G.merges k.group)
             (grouping_own G.merges k)) }
     {
-        if !are_sound(group.calls.as_slice()) || (group.lone && group.keys.len() > 0) {
+        if group.lone && group.keys.len() > 0 {
+            return Err(Memory);
+        }
+        if !sum_no_texts(group.calls.as_slice()) {
+            return Ok(Grouping {
+                group,
+                phase: Phase::Dropping,
+                grouped: PhantomData,
+            });
+        }
+        if !are_sound(group.calls.as_slice()) {
             return Err(Memory);
         }
         match new_table(alloc, G::merges(), &group) {
@@ -183,6 +193,7 @@ impl<G: Grouped> Grouping<G> {
     {
         match replace(&mut self.phase, Phase::Failed) {
             Phase::Gathering(table) => put_phase(&mut self.phase, Phase::Ended(table)),
+            Phase::Dropping => put_phase(&mut self.phase, Phase::Empty),
             other => put_phase(&mut self.phase, other),
         }
     }
@@ -193,11 +204,31 @@ impl<G: Grouped> Grouping<G> {
     {
         let some = match &self.phase {
             Phase::Gathering(_) => false,
+            Phase::Dropping => false,
+            Phase::Empty => G::merges() && self.group.lone,
             Phase::Ended(table) => table.groups() > 0 || (G::merges() && self.group.lone),
             Phase::Giving(chunk, next) => *next < chunk.rows(),
             Phase::Failed => false,
         };
         if some { Offer::Rows } else { Offer::Wants }
+    }
+
+    // Makes the row of defaults, where that is due to a merge that took no chunk.
+    fn give_default(&mut self, alloc: Global) -> Result<Option<Chunk>, WorkFault>
+        requires bare { self.old.group.lone ≡ true → self.old.group.keys ≡ [] }
+        ensures group { self.new.group ≡ self.old.group }
+        ensures makes { IfOk result (Makes (aggregate_spec G.merges self.old.group)
+            (giving_own (given_for G.merges self.old.group [])) (grouping_own G.merges self.new)) }
+        ensures fails { IfErr result (λ f. f ≡ fault.Memory) }
+    {
+        if !(G::merges() && self.group.lone) {
+            put_phase(&mut self.phase, Phase::Empty);
+            return Ok(None);
+        }
+        match default_chunk(alloc, &self.group) {
+            Ok(chunk) => self.give(chunk, 0),
+            Err(_) => Err(WorkFault::Memory),
+        }
     }
 
     // Makes a chunk of the rows from a place on.
@@ -296,6 +327,10 @@ impl<G: Grouped> Kernel for Grouping<G> {
                     Err(memory) => Err(memory),
                 }
             }
+            Phase::Dropping => {
+                put_phase(&mut self.phase, Phase::Dropping);
+                Ok(None)
+            }
             // Once the end was noted no chunk comes.
             _ => Err(Memory),
         }
@@ -307,10 +342,15 @@ impl<G: Grouped> Kernel for Grouping<G> {
                 put_phase(&mut self.phase, Phase::Gathering(table));
                 Ok(None)
             }
+            Phase::Dropping => {
+                put_phase(&mut self.phase, Phase::Dropping);
+                Ok(None)
+            }
             Phase::Ended(table) => match whole_chunk(alloc, G::merges(), &self.group, table) {
                 Ok(chunk) => self.give(chunk, 0),
                 Err(_) => Err(WorkFault::Memory),
             },
+            Phase::Empty => self.give_default(alloc),
             Phase::Giving(chunk, next) => self.give(chunk, next),
             Phase::Failed => Ok(None),
         }

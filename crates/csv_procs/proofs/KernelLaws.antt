@@ -196,6 +196,7 @@ module _ (list : PartSpec) (l : ListedPaths) where
           (resized-takes worked outs i t lt (subst (AreResized worked outs)
           (nil_from_length (left_rows l) (eqb-true (length (left_rows l)) 0 wanted)) h.resized));
     };
+    fits = inl fit;
     types = λ ins pulled. of-types list.types o (g.types list.types fit).0;
     sizes = g.within;
     ends = λ i n. n;

@@ -94,12 +94,14 @@ module _ (d e : ReaderState) (count : RowCount) (lists : Bool) (part' : PartSpec
   step-made : (b : Bool) (s s' : FileState) (a : Wake) → is_fetched s ≡ false → (ins outs : Lists)
       → (t : KeepsMade (csv_spec b part') (P b s) ins outs)
       → HasMade (reading_of (Q b s' (Ok a))) (csv_spec b part') (own_of (Q b s' (Ok a)).work)
-      t.worked outs (chunk_rows (held_made h))
+      t.fit outs (chunk_rows (held_made h))
       → KeepsMade (csv_spec b part') (Q b s' (Ok a)) ins outs
   unfolding kept_output
   step-made b s s' a none ins outs t rows = record {
     worked = t.worked;
+    fit = t.fit;
     ins_are = t.ins_are;
+    fit_are = t.fit_are;
     rows = rows;
     over = λ o fin. never-read b s none (t.read o fin);
     read = λ o fin. never-read b s none (t.read o fin);
@@ -127,7 +129,7 @@ module _ (d e : ReaderState) (count : RowCount) (lists : Bool) (part' : PartSpec
       → KeepsMade (spec.List part') (Q true s' (Ok a)) ins outs
   list-step s s' a none same knows ins outs t = step-made true s s' a none ins outs t (record {
     knows = knows;
-    resized = subst (λ l. AreResized t.worked outs (chunk_rows (held_made h) ++ l)) same
+    resized = subst (λ l. AreResized t.fit outs (chunk_rows (held_made h) ++ l)) same
         t.rows.resized;
   })
 
@@ -227,7 +229,7 @@ module _ (d e : ReaderState) (count : RowCount) (lists : Bool) (part' : PartSpec
     ports = had-same n.view (P lists s) (Q lists s' (Ok a)) refl (step-facts s s' a x).1 kept.ports;
     opens = λ e. absurd (cc);
     idle = step-idle lists s s' (Ok a) (step-facts s s' a x).0 kept.idle;
-    rows = λ fits. step-rows lists s s' a x ins outs (kept.rows fits);
+    rows = step-rows lists s s' a x ins outs kept.rows;
     types = kept.types;
     made_types = kept.made_types;
     sizes = kept.sizes;

@@ -12,6 +12,6 @@ pub takes : (c : Cond) (i : ℕ) (t u : Table) (mask : List Bool) → i ≡ 0 �
     → mask ≡ map (truth_of c) t.rows → u.types ≡ t.types → u.rows ≡ kept mask t.rows
     → Takes (spec.Filter c) idle_own i t idle_own (Some u)
 takes c i t u mask z typed m types rows =
-    takes-each (spec.Filter c) (filter (holds c)) (filter_maker c) idle_own i t (Some u) z
-    (λ fits. rows ∙ ap (λ l. kept l t.rows) m ∙ kept-filter c t.rows)
+    takes-each (spec.Filter c) (filter (holds c)) (filter_maker c) idle_own i t (Some u) z typed
+    (rows ∙ ap (λ l. kept l t.rows) m ∙ kept-filter c t.rows)
     (λ ins pulled. record { pulled = rw types pulled; fits = rw types typed }) tt

@@ -1,5 +1,5 @@
 -- A limit makes of its chunks the rows of its span.
-use Rattle.flow_procs.proofs.Imports.{AreLimited, IsPulled, List, Row, Some, Span, Spec, Table, Takes, append-nil, chunk_rows, drop, last_read, length, limited-more, min, read_own, rows-here, subst, sym, take, with_chunk, ℕ, ◌++◌, ◌+◌, ◌-◌, ◌<◌, ◌^◌, ◌≡◌}
+use Rattle.flow_procs.proofs.Imports.{AreLimited, IsPulled, List, Row, Some, Span, Spec, Table, Takes, append-nil, chunk_rows, drop, inl, last_read, length, limited-more, min, read_own, rows-here, subst, sym, take, with_chunk, ℕ, ◌++◌, ◌+◌, ◌-◌, ◌<◌, ◌^◌, ◌≡◌}
 
 pub takes : (span : Span) (read i : ℕ) (t u : Table) → i ≡ 0 → span.skip < 2 ^ 64
     → span.count < 2 ^ 64 → u.types ≡ t.types
@@ -16,6 +16,7 @@ takes span read i t u z a b types rows = record {
       (sym (rows-here t worked))
       (limited-more span read (chunk_rows (worked 0)) (chunk_rows (outs 0)) t u a b rows
       (subst (λ l. R (chunk_rows (worked 0)) l read) (append-nil (chunk_rows (outs 0))) h)));
+  fits = inl tt;
   types = λ ins pulled. subst (λ x. IsPulled ins x) (sym types) pulled;
   sizes = tt;
   ends = λ i n. n;

@@ -5,6 +5,6 @@ pub use Rattle.proc_api.specs.Prelude.{ColumnType, Cond, Expr, Kind, List, Row, 
 pub use Rattle.proc_shell.proofs.Resizing.{resize-pushes}
 pub use Rattle.proc_shell.proofs.Through.{IsMaker, shelled-of}
 pub use Rattle.proc_shell.specs.Names.{IsShelled}
-pub use Rattle.std.proofs.Common.{filter, map, refl, suc, zero}
+pub use Rattle.std.proofs.Common.{filter, inl, inr, map, refl, suc, zero}
 pub use Rattle.std.proofs.lemmas.List.{map-append}
 pub use Rattle.std.proofs.lemmas.List.Elements.{filter-append}

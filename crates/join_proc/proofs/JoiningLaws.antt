@@ -1,5 +1,5 @@
 -- A join keeps what its kind says of the chunks that it worked.
-use Rattle.join_proc.proofs.Imports.{◌≡◌, ℕ, ◌<◌, true, [], ◌∷◌, ◌++◌, length, append_assoc, IsPermutation, Some, None, sym, ap, ◌∙◌, subst, arith, AreStarts, IsPermutation-append_left, JoinIndex, JoinSpec, JoinsSome, LeftRows, Lists, Makes, OwnState, Table, Takes, append-nil, chunk-elsewhere, chunk-here, chunk_rows, flat_map-append, joined_rows, joining_own, one-more, rows_to_join, with_chunk}
+use Rattle.join_proc.proofs.Imports.{FitsJoin, inl, ◌≡◌, ℕ, ◌<◌, true, [], ◌∷◌, ◌++◌, length, append_assoc, IsPermutation, Some, None, sym, ap, ◌∙◌, subst, arith, AreStarts, IsPermutation-append_left, JoinIndex, JoinSpec, JoinsSome, LeftRows, Lists, Makes, OwnState, Table, Takes, append-nil, chunk-elsewhere, chunk-here, chunk_rows, flat_map-append, joined_rows, joining_own, one-more, rows_to_join, with_chunk}
 use Rattle.query_model.specs.declared.processor_spec.Spec.TheVariants as spec
 
 -- the rows of an input with a chunk more, and those of another
@@ -13,10 +13,10 @@ there i j t worked ne = ap chunk_rows (chunk-elsewhere i j t worked ne)
 
 -- a left chunk of which nothing is joined yet, where no rows were left
 pub takes-left : (join : JoinSpec) (old : OwnState) (x : JoinIndex) (l : LeftRows) (t : Table)
-    → old.unmade ≡ [] → old.ended ≡ true → old.gathered ≡ x.rows ∷ []
+    → FitsJoin join 0 t.types → old.unmade ≡ [] → old.ended ≡ true → old.gathered ≡ x.rows ∷ []
     → AreStarts join.pairs t.rows x.rows.rows l
     → Takes (spec.HashJoin join) old 0 t (joining_own join x l) None
-takes-left join old x l t none ended gathered s = record {
+takes-left join old x l t fit none ended gathered s = record {
   means = λ y fits worked outs h.
       let made = chunk_rows (outs 0) ++ [] in
       let left = chunk_rows (worked 0) in
@@ -47,6 +47,7 @@ takes-left join old x l t none ended gathered s = record {
             (subst (IsPermutation (joined_rows join.pairs left (chunk_rows (worked 1))))
             (ap (λ u. made ++ u) none ∙ append-nil made) all))))));
       };
+  fits = inl fit;
   types = λ ins pulled. tt;
   sizes = tt;
   ends = λ j n. (n.0, ended);

@@ -1,5 +1,5 @@
 -- The end of a run of a plan's graph, by its nodes and its collector.
-use Rattle.plan_ends.proofs.Imports.{List, Some, [], ap, arith, get_or, inl, inr, is_some, length, length-append, map, refl, subst, suc, sym, true, zero, ℕ, ◌++◌, ◌+◌, ◌<◌, ◌∙◌, ◌∷◌, ◌≡◌, ◌≤◌, ◌⊎◌, AllByRecursion, AllFitDraft, AllPull, AllTyped, ArePortsOf, BoxPicture, Draft, DraftNode, EachGivesIf, Files, GivesIf, HasRun, IsDraftGraph, IsSmall, KeepsRows, Lists, NodeForm, NodePort, PartSpec, IsPlanGraph, Pulls, SelectPlan, Spec, Stream, Wire, rows_together, body_nodes, box_at, collect_node, collector, consumer_of, each-same, each-typed, few-inputs, few-outputs, fits, forms, get_or-map, get_or_at, get_or_default, graphs-same, input_count, length-map, map-append, no_draft, node_form, output-below-count, output_count, part_spec, plan-fits, plan-graph, plan_nodes, ports_of, producer_of, ranks-count, stream_rows, spec_form, unboxed, wire_at, with_nodes, BoxGives, HasEnded, HasListed, HasPulled, KeepsContract, IsListedNode, IsOrdinary, IsReady, IsUngrown, in_stream, out_stream, sources_of_files, stream_pulled_at, stream_pushed_at, reading_in, IsWorkOf, KeepsMade}
+use Rattle.plan_ends.proofs.Imports.{KeepsWorked, List, Some, [], ap, arith, get_or, inl, inr, is_some, length, length-append, map, refl, subst, suc, sym, true, worked-where-fit, zero, ℕ, ◌++◌, ◌+◌, ◌<◌, ◌∙◌, ◌∷◌, ◌≡◌, ◌≤◌, ◌⊎◌, AllByRecursion, AllFitDraft, AllPull, AllTyped, ArePortsOf, BoxPicture, Draft, DraftNode, EachGivesIf, Files, GivesIf, HasRun, IsDraftGraph, IsSmall, KeepsRows, Lists, NodeForm, NodePort, PartSpec, IsPlanGraph, Pulls, SelectPlan, Spec, Stream, Wire, rows_together, body_nodes, box_at, collect_node, collector, consumer_of, each-same, each-typed, few-inputs, few-outputs, fits, forms, get_or-map, get_or_at, get_or_default, graphs-same, input_count, length-map, map-append, no_draft, node_form, output-below-count, output_count, part_spec, plan-fits, plan-graph, plan_nodes, ports_of, producer_of, ranks-count, stream_rows, spec_form, unboxed, wire_at, with_nodes, BoxGives, HasEnded, HasListed, HasPulled, KeepsContract, IsListedNode, IsOrdinary, IsReady, IsUngrown, in_stream, out_stream, sources_of_files, stream_pulled_at, stream_pushed_at, reading_in, IsWorkOf}
 use Rattle.query_model.specs.declared.processor_spec.Spec.TheVariants as spec
 use Rattle.plan_ends.proofs.GrownLists.{at-recursion}
 use Rattle.plan_ends.proofs.Pulled.{kept-counted}
@@ -265,9 +265,9 @@ module _ (files : Files) (nodes : List DraftNode) (boxes : List BoxPicture)
         let b : BoxPicture = box_at boxes last in
         let ins : Lists = h.done.pulled last in
         let loaded : b.spec ≡ Some spec.Collect = k.loaded ∙ ap (λ s. Some s) is in
-        let keeps : KeepsMade spec.Collect b ins (h.done.pushed last) =
-        subst (λ s. KeepsRows s b ins (h.done.pushed last)) loaded
-        (k.keeps.rows (rw loaded (λ i n d lt. tt))) in
+        let keeps : KeepsWorked spec.Collect b ins (h.done.pushed last) =
+        worked-where-fit spec.Collect b ins (h.done.pushed last) (λ i n d lt. tt)
+        (subst (λ s. KeepsRows s b ins (h.done.pushed last)) loaded k.keeps.rows) in
         record {
           loaded = loaded;
           done = collector-done b ins (h.done.pushed last) loaded k.keeps (k.outputs ∙ none);

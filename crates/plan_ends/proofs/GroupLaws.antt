@@ -1,5 +1,5 @@
 -- What a partial aggregate and a merge of groups keep is what they give.
-use Rattle.plan_ends.proofs.Imports.{arith, IsPermutation, List, refl, sym, ◌++◌, ◌∙◌, ◌≡◌, GroupSpec, IsPermutation-refl, KeepsMade, Row, Spec, all_done, rows_together, chunk_rows, first_rows, merged_rows, partial_rows, partial_types, stream_rows, KindGives, in_stream}
+use Rattle.plan_ends.proofs.Imports.{FitsGroups, KeepsWorked, arith, IsPermutation, List, refl, sym, ◌++◌, ◌∙◌, ◌≡◌, GroupSpec, IsPermutation-refl, Row, Spec, all_done, rows_together, chunk_rows, first_rows, merged_rows, partial_rows, partial_types, stream_rows, KindGives, in_stream}
 use Rattle.query_model.specs.declared.processor_spec.Spec.TheVariants as spec
 use Rattle.plan_ends.proofs.KindLaws.{at-ports, kept-rows, one-fits, one-output}
 use Rattle.plan_ends.proofs.ResizeLaws.{all-done, all-ports, at_ports}
@@ -10,9 +10,9 @@ pub partial-gives : (g : GroupSpec) → KindGives (spec.PartialAggregate g)
 partial-gives g files takes gives n p ins outs k =
     at-ports n 1 1 k.ports.0 k.ports.1
     (λ h. one-output n h (λ fit.
-    let m : KeepsMade (spec.PartialAggregate g) p ins outs =
-    kept-rows h (one-fits (spec.PartialAggregate g) (λ t. t ≡ partial_types g) ins (λ i t x. x)
-    h.nothing_past fit.0) in
+    let m : KeepsWorked (spec.PartialAggregate g) p ins outs =
+    kept-rows h (one-fits (spec.PartialAggregate g) (FitsGroups g (partial_types g)) ins
+    (λ i t x. x) h.nothing_past fit.0) in
     let whole : List Row = partial_rows g (chunk_rows (ins 0)) in
     gives-held (λ rows. IsPermutation whole rows) p outs (in_stream p ins 0).done
     (whole, IsPermutation-refl whole) (λ e. (m.rows.gathering e).nothing_made)
@@ -28,7 +28,7 @@ merged-gives g files takes gives n p ins outs k =
     at-ports n takes 1 refl k.ports
     (λ h. one-output n h (λ fit.
     let s : Spec = spec.MergeAggregate g in
-    let m : KeepsMade s p ins outs =
+    let m : KeepsWorked s p ins outs =
     kept-rows h (all-fit-at s p ins n takes h.nothing_past fit) in
     let lists : List (List Row) = stream_rows (at_ports (in_stream p ins) n 0 takes) in
     let rows : rows_together lists ≡ first_rows 32 ins =

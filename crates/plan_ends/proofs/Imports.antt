@@ -30,10 +30,10 @@ pub use Rattle.plan_meaning.proofs.Same.{SameSpec, by-forms, each-same, graphs-s
 pub use Rattle.plan_meaning.proofs.Typing.{each-typed, typed-all, typed-append}
 pub use Rattle.plan_meaning.specs.Names.{AllPull, AllTyped, EachGivesIf, FitFrom, Flow, Gives, GivesFront, GivesHeld, GivesIf, GivesJoined, GivesListed, GivesMerged, GivesResized, GivesSource, GivesThrough, HasCalls, HasEnoughRows, HasRun, HoldsBack, IsAmong, IsCall, IsCut, IsFront, IsPlan, IsPlanOf, IsSmall, IsSourceSpec, IsTold, JoinsSources, MakesRows, MakesType, NodeForm, PlanJoin, PlanShape, Pulls, RowsOfSources, SelectPlan, SourceRows, Stream, Types, TypesFit, TypesTo, all_certain, all_done, all_valid, any_done, any_needs, body_nodes, call_arguments, collect_node, collector, column_items, count_over, filter_nodes, filter_pulls, flow_rows, flows_of, forms, gather_nodes, gather_pulls, group_spec, grouped, is_valid_source, join_pulls, join_valid, lane_steps, limit_nodes, merged_rows, needed_valid, node_form, of_kind, partial_rows, plain, plan_keys, plan_nodes, plan_pulls, plan_rows, plan_valid, pulled_rows, pulled_types, pulls, read_nodes, read_rows, read_steps, read_valid, rows_together, select_steps, shape_nodes, shape_of, shape_pulls, shape_rows, sort_nodes, sort_pulls, source_list, sources_rows, state_call, stream_rows, join_step, sort_step, merge_step}
 pub use Rattle.plan_meaning.specs.Prelude.{AllZip, Any, Contains, is_lt, spec_group_types}
-pub use Rattle.proc_api.proofs.Keeping.{rows-append}
+pub use Rattle.proc_api.proofs.Keeping.{KeepsWorked, rows-append, worked-where-fit}
 pub use Rattle.proc_api.proofs.KeptFlags.{may-be-input, past-open}
 pub use Rattle.proc_api.proofs.Orders.{every-append, every-contains, every-front, every-none, every-turned, every-weaker, order-cross, order-from_sorted, order-front, rows-ordered, sorted-from_order}
-pub use Rattle.proc_api.specs.Names.{AllFit, AreCounts, AreInputsSorted, AreKeyPairs, AreMerged, ArePartBytes, ArePortsOf, AreResized, BoxPicture, FitsInput, FitsOrder, GrowthForm, HasReadEnough, IsBeforeNone, IsKeyPair, IsListGrowth, IsOver, IsPulled, IsReadUp, IsSortOf, IsSourceKind, Keeps, KeepsMade, KeepsRows, Lists, MakesTypes, MayGrow, NotesEnd, SpecForm, WorkState, argument_types, chunk_rows, head_at, head_rows, input_count, is_of, kept_input, kept_output, kept_outputs, last_count, list_growth, listed_edges, listed_part, listed_parts, no_box, no_table, no_wire, output_count, own_of, partial_types, same_kind, spec_form, unboxed, unworked_at, IsWorkOf}
+pub use Rattle.proc_api.specs.Names.{AllFit, AreCounts, AreInputsSorted, AreKeyPairs, AreMerged, ArePartBytes, ArePortsOf, AreResized, BoxPicture, FitsGroups, FitsInput, FitsOrder, GrowthForm, HasReadEnough, IsBeforeNone, IsKeyPair, IsListGrowth, IsOver, IsPulled, IsReadUp, IsSortOf, IsSourceKind, Keeps, KeepsRows, Lists, MakesTypes, MayGrow, NotesEnd, SpecForm, SumsNoTexts, WorkState, argument_types, chunk_rows, head_at, head_rows, input_count, is_of, kept_input, kept_output, kept_outputs, last_count, list_growth, listed_edges, listed_part, listed_parts, no_box, no_table, no_wire, output_count, own_of, partial_types, same_kind, spec_form, sums_texts, unboxed, unworked_at, IsWorkOf}
 pub use Rattle.proc_api.specs.Prelude.{BadPlace}
 pub use Rattle.query_model.proofs.Accepted.{all_fit, are_keys, none_found, tells_each, unrefused_is_accepted}
 pub use Rattle.query_model.proofs.Imports.{All, All-append, All-cons, All-head, All-nil, All-tail, AllByRecursion, ColumnType, IsPermutation-append_left, IsPermutation-refl, IsPermutation-trans, Row, length_permutation, SortKey, Table, flat_map-append, list_all, list_any, means, row_cmp, ungrouped_names, values_at, ⊤}

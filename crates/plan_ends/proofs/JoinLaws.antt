@@ -1,13 +1,13 @@
 -- What a join keeps is what it gives.
 use Rattle.proc_api.specs.Names.{IsJoinWork, IsWorkOf}
-use Rattle.plan_ends.proofs.Imports.{Bool, IsPermutation, List, [], ap, append_assoc, arith, false, not, refl, subst, sym, true, ◌++◌, ◌<◌, ◌∙◌, ◌≡◌, BoxPicture, GivesJoined, IsPermutation-append_left, IsPermutation-refl, IsReadUp, JoinSpec, KeepsMade, Lists, Row, and_parts, append-nil, chunk_rows, joined_rows, joined_rows-append, kept_outputs, rows-append, unworked_at, KeepsContract, KindGives, in_stream, out_stream}
+use Rattle.plan_ends.proofs.Imports.{Bool, IsPermutation, KeepsWorked, List, [], ap, append_assoc, arith, false, not, refl, subst, sym, true, ◌++◌, ◌<◌, ◌∙◌, ◌≡◌, BoxPicture, GivesJoined, IsPermutation-append_left, IsPermutation-refl, IsReadUp, JoinSpec, Lists, Row, and_parts, append-nil, chunk_rows, joined_rows, joined_rows-append, kept_outputs, rows-append, unworked_at, KeepsContract, KindGives, in_stream, out_stream}
 use Rattle.query_model.specs.declared.processor_spec.Spec.TheVariants as spec
 use Rattle.plan_ends.proofs.KindLaws.{all-worked-at, at-ports, kept-rows, one-output, stays-open}
 use Rattle.plan_ends.proofs.SortLaws.{all-fit-at, front-none, read-up}
 
 module _ (join : JoinSpec) (files : _) (p : BoxPicture) (ins outs : Lists)
     (k : KeepsContract (spec.HashJoin join) files 2 1 p ins outs)
-    (m : KeepsMade (spec.HashJoin join) p ins outs) where
+    (m : KeepsWorked (spec.HashJoin join) p ins outs) where
   abbrev out : List Row
   out = chunk_rows (outs 0)
 

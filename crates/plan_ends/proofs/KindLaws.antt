@@ -1,5 +1,5 @@
 -- What a kind keeps is what it gives, a kind at a time.
-use Rattle.plan_ends.proofs.Imports.{Bool, List, Some, [], ap, append_assoc, arith, false, filter, get_or, inl, inr, length, map, refl, subst, suc, sym, true, zero, ℕ, ◌++◌, ◌+◌, ◌<◌, ◌∙◌, ◌∷◌, ◌≡◌, ◌≤◌, ◌⊎◌, All, All-head, All-nil, All-tail, AllByRecursion, AllFit, Any, BoxPicture, ColumnType, Cond, Expr, Files, FitFrom, FitsInput, Gives, GivesFront, GivesSource, GivesThrough, HasReadEnough, IsItem, IsPulled, IsTypedCond, Keeps, KeepsMade, KeepsRows, Lists, MakesType, MakesTypes, NodePort, PartSpec, Row, Span, Spec, Table, WorkState, and_parts, append-nil, both_ways, cases_eq, cases_lt, chunk_rows, cond_both, false_from_ne_true, flat_map-append, get_or-map, holds, item_row, kept_output, kept_outputs, length-map, limited, limited-extends, no-rest, no_table, not-true, not_from_false, numbers, ports_of, pulled_types, recursion_from_All, type_of, unworked_at, BoxGives, part_of, sources_of_files, chunk_types, in_stream, out_stream, KeepsContract, KindGives, Extends, filter-append, map-append, IsWorkOf, cond, length-append, nil_from_length, ◌==◌}
+use Rattle.plan_ends.proofs.Imports.{Bool, KeepsWorked, List, Some, [], ap, append_assoc, arith, false, filter, get_or, inl, inr, length, map, refl, subst, suc, sym, true, worked-where-fit, zero, ℕ, ◌++◌, ◌+◌, ◌<◌, ◌∙◌, ◌∷◌, ◌≡◌, ◌≤◌, ◌⊎◌, All, All-head, All-nil, All-tail, AllByRecursion, AllFit, Any, BoxPicture, ColumnType, Cond, Expr, Files, FitFrom, FitsInput, Gives, GivesFront, GivesSource, GivesThrough, HasReadEnough, IsItem, IsPulled, IsTypedCond, Keeps, KeepsRows, Lists, MakesType, MakesTypes, NodePort, PartSpec, Row, Span, Spec, Table, WorkState, and_parts, append-nil, both_ways, cases_eq, cases_lt, chunk_rows, cond_both, false_from_ne_true, flat_map-append, get_or-map, holds, item_row, kept_output, kept_outputs, length-map, limited, limited-extends, no-rest, no_table, not-true, not_from_false, numbers, ports_of, pulled_types, recursion_from_All, type_of, unworked_at, BoxGives, part_of, sources_of_files, chunk_types, in_stream, out_stream, KeepsContract, KindGives, Extends, filter-append, map-append, IsWorkOf, cond, length-append, nil_from_length, ◌==◌}
 use Rattle.query_model.specs.declared.processor_spec.Spec.TheVariants as spec
 
 -- a box that finished an output which nobody closed has closed no input, but for a limit that has
@@ -30,7 +30,7 @@ all-worked-at w i e = search (arith, cond_both)
 -- The rows that were pushed are the first of what a kind makes of those of its input, where it has
 -- made that of the rows that it worked.
 made-front : (make : List Row → List Row) → Extends make → (s : Spec) (p : BoxPicture)
-    (ins outs : Lists) (m : KeepsMade s p ins outs)
+    (ins outs : Lists) (m : KeepsWorked s p ins outs)
     → chunk_rows (outs 0) ++ chunk_rows p.work.made ≡ make (chunk_rows (m.worked 0))
     → GivesFront (make (chunk_rows (ins 0))) (out_stream p outs 0)
 made-front make extends s p ins outs m made =
@@ -129,9 +129,9 @@ made-typed {s} {ins = ins} {outs} k from o makes =
 
 -- what is kept of a kind, where each chunk that was pulled fits
 pub kept-rows : {s : Spec} {files : Files} {takes gives : ℕ} {p : BoxPicture} {ins outs : Lists}
-    → KeepsContract s files takes gives p ins outs → AllFit (Some s) ins
-    → KeepsRows (Some s) p ins outs
-kept-rows {p = p} {ins} {outs} k = grind arith
+    → KeepsContract s files takes gives p ins outs → AllFit (Some s) ins → KeepsWorked s p ins outs
+kept-rows {s} {p = p} {ins} {outs} k fit =
+    worked-where-fit s p ins outs fit (subst (λ z. KeepsRows z p ins outs) k.loaded k.keeps.rows)
 
 -- a kind of one output, by what it gives and the types that it makes
 pub one-output : {s : Spec} {files : Files} {takes : ℕ} (n : ℕ) {p : BoxPicture} {ins outs : Lists}
@@ -153,7 +153,7 @@ through-kind : (make : List Row → List Row) → Extends make → (s : Spec)
     → (AllByRecursion (FitsInput (Some s) 0) (chunk_types (ins 0))
     → AllByRecursion P (chunk_types (ins 0)))
     → (HasReadEnough (Some s) ins → ⊥)
-    → (KeepsRows (Some s) p ins outs → (m : KeepsMade s p ins outs)
+    → (KeepsWorked s p ins outs → (m : KeepsWorked s p ins outs)
     × (chunk_rows (outs 0) ++ chunk_rows p.work.made ≡ make (chunk_rows (m.worked 0))))
     → (GivesThrough make (in_stream p ins 0) (out_stream p outs 0)
     → Gives (sources_of_files files) s (in_stream p ins 0 ∷ []) (out_stream p outs 0 ∷ []))
@@ -205,7 +205,7 @@ part-gives part files takes gives n p ins outs k =
     (λ h. one-output n h (λ fit. rows h p.work.fetched refl) (λ t e. e)) k
   where
     keeps : KeepsContract (spec.Csv part) files 0 1 p ins outs
-        → KeepsMade (spec.Csv part) p ins outs
+        → KeepsWorked (spec.Csv part) p ins outs
     keeps h = kept-rows h (λ i d x lt. tt)
 
     rows : KeepsContract (spec.Csv part) files 0 1 p ins outs → (b : Bool) → p.work.fetched ≡ b
@@ -272,7 +272,7 @@ collector-done p ins outs e k none = search (arith, not_from_false, false_from_n
 
 -- and what it gathered are the chunks that it pulled
 pub collector-gathered : (p : BoxPicture) (ins outs : Lists) → IsWorkOf (Some spec.Collect) p.work
-    → KeepsMade spec.Collect p ins outs → p.work.gathered ≡ ins 0
+    → KeepsWorked spec.Collect p ins outs → p.work.gathered ≡ ins 0
 collector-gathered p ins outs idle m =
     m.rows ∙ sym (m.ins_are 0 ∙ ap (λ n. m.worked 0 ++ cond (0 == n) p.work.unworked [])
     (ap (λ w. w.source) idle))

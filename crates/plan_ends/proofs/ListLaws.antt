@@ -1,5 +1,5 @@
 -- What a list of parts keeps, with what its parts' sources give, is what it gives.
-use Rattle.plan_ends.proofs.Imports.{IsPermutation, List, None, Option, Some, [], ap, ap₂, arith, filter, get_or, inl, inr, length, length-append, refl, subst, suc, sym, true, ℕ, ◌++◌, ◌+◌, ◌-◌, ◌<◌, ◌∙◌, ◌∷◌, ◌≡◌, ◌≤◌, ◌⊎◌, All, All-nil, AllByRecursion, AllZip, BoxPicture, CompletesKind, Files, Flow, GivesIf, GivesListed, GivesSource, GivesResized, IsFront, IsPermutation-refl, Lists, MakesRows, SourceRows, PartSpec, RowsOfSources, Pulls, SourceReading, Row, Spec, Stream, Table, all_certain, rows_together, all_valid, and_from, and_parts, any_needs, append-nil, bad_line, bad_line_in, cases_lt, chunk_rows, complete-kind, every-front, file_bytes, flow_rows, flows_of, get_or_default, is_path, is_valid_source, length_permutation, part-front, part_spec, path_sources, paths_in, pulled-front, source_list, sources_rows, KeepsContract, in_stream, list_in, listed_sources, out_stream, part_of, sources_of_files, parts_of_files, reading_in, nil_from_length, KeepsMade}
+use Rattle.plan_ends.proofs.Imports.{IsPermutation, KeepsWorked, List, None, Option, Some, [], ap, ap₂, arith, filter, get_or, inl, inr, length, length-append, refl, subst, suc, sym, true, ℕ, ◌++◌, ◌+◌, ◌-◌, ◌<◌, ◌∙◌, ◌∷◌, ◌≡◌, ◌≤◌, ◌⊎◌, All, All-nil, AllByRecursion, AllZip, BoxPicture, CompletesKind, Files, Flow, GivesIf, GivesListed, GivesSource, GivesResized, IsFront, IsPermutation-refl, Lists, MakesRows, SourceRows, PartSpec, RowsOfSources, Pulls, SourceReading, Row, Spec, Stream, Table, all_certain, rows_together, all_valid, and_from, and_parts, any_needs, append-nil, bad_line, bad_line_in, cases_lt, chunk_rows, complete-kind, every-front, file_bytes, flow_rows, flows_of, get_or_default, is_path, is_valid_source, length_permutation, part-front, part_spec, path_sources, paths_in, pulled-front, source_list, sources_rows, KeepsContract, in_stream, list_in, listed_sources, out_stream, part_of, sources_of_files, parts_of_files, reading_in, nil_from_length}
 use Rattle.query_model.specs.declared.processor_spec.Spec.TheVariants as spec
 use Rattle.plan_ends.proofs.KindLaws.{kept-rows, made-typed, types-fit}
 use Rattle.plan_ends.proofs.ResizeLaws.{at_ports, gives-resized}
@@ -126,7 +126,7 @@ list-gives list files takes n p ins outs k h =
     o : Stream
     o = out_stream p outs 0
 
-    resized : KeepsMade (spec.List list) p ins outs
+    resized : KeepsWorked (spec.List list) p ins outs
         → GivesResized (at_ports (in_stream p ins) n 0 takes) (o ∷ [])
     resized keeps =
         gives-resized k n (chunk_rows p.work.made ++ p.work.unmade) (omega arith) (λ x. x)
@@ -134,7 +134,7 @@ list-gives list files takes n p ins outs k h =
         keeps.rows.resized (λ over. ap₂ (λ a b. chunk_rows a ++ b) over.nothing_waits over.all_made)
 
     -- a list without paths
-    unfed : takes ≡ 0 → KeepsMade (spec.List list) p ins outs
+    unfed : takes ≡ 0 → KeepsWorked (spec.List list) p ins outs
         → GivesListed (sources_of_files files (spec.List list)) o
     unfed none keeps =
         let part : SourceRows = sources_of_files files (spec.List list) in
@@ -157,7 +157,7 @@ list-gives list files takes n p ins outs k h =
           };
         }
       where
-        ended : takes ≡ 0 → KeepsMade (spec.List list) p ins outs → o.done ≡ true
+        ended : takes ≡ 0 → KeepsWorked (spec.List list) p ins outs → o.done ≡ true
             → ((sources_of_files files (spec.List list)).rows ≡ [])
             × ((sources_of_files files (spec.List list)).valid ≡ true)
         ended none keeps done =
@@ -173,10 +173,13 @@ list-gives list files takes n p ins outs k h =
 
     go : (takes ≡ 0) ⊎ IsGrownList list files takes p ins
         → GivesListed (sources_of_files files (spec.List list)) o
-    go (inl none) = grind (arith, unfed, kept-rows)
+    go (inl none) = unfed none (kept-rows k (λ i.
+        subst (All (λ (t : Table). t.types ≡ list.types))
+        (sym (k.nothing_past i (omega (arith, none))))
+        (All-nil (λ (t : Table). t.types ≡ list.types))))
     go (inr g) =
         let count = g.count in
-        let keeps : KeepsMade (spec.List list) p ins outs =
+        let keeps : KeepsWorked (spec.List list) p ins outs =
         kept-rows k (λ i. elim (cases_lt i takes) [
           | inl lt ↦ types-fit (λ t. t ≡ list.types) (ins i)
               (let paths : List (List ℕ) = paths_in (Some g.text) in

@@ -1,5 +1,5 @@
 -- What a resize keeps is what it gives: the rows of any inputs by any outputs.
-use Rattle.plan_ends.proofs.Imports.{IsPermutation, List, Some, [], ap, append_assoc, arith, false, inl, inr, map, refl, subst, suc, sym, true, zero, ℕ, ◌++◌, ◌+◌, ◌-◌, ◌<◌, ◌∙◌, ◌≡◌, ◌≤◌, AllByRecursion, AreResized, BoxPicture, Files, GivesResized, HasReadEnough, IsOver, IsPermutation-append_left, IsPermutation-refl, IsPermutation-trans, KeepsMade, Lists, MakesType, NodePort, Row, Spec, Stream, Table, Types, all_done, rows_together, and_from, and_parts, any_done, append-nil, both_ways, chunk_rows, first_rows, flat_map-append, length-map, or_cases, pairs_of_appends, ports-length, ports_of, pulled_types, stream_rows, unworked_at, KeepsContract, KindGives, in_stream, out_stream}
+use Rattle.plan_ends.proofs.Imports.{IsPermutation, KeepsWorked, List, Some, [], ap, append_assoc, arith, false, inl, inr, map, refl, subst, suc, sym, true, zero, ℕ, ◌++◌, ◌+◌, ◌-◌, ◌<◌, ◌∙◌, ◌≡◌, ◌≤◌, AllByRecursion, AreResized, BoxPicture, Files, GivesResized, HasReadEnough, IsOver, IsPermutation-append_left, IsPermutation-refl, IsPermutation-trans, Lists, MakesType, NodePort, Row, Spec, Stream, Table, Types, all_done, rows_together, and_from, and_parts, any_done, append-nil, both_ways, chunk_rows, first_rows, flat_map-append, length-map, or_cases, pairs_of_appends, ports-length, ports_of, pulled_types, stream_rows, unworked_at, KeepsContract, KindGives, in_stream, out_stream}
 use Rattle.query_model.specs.declared.processor_spec.Spec.TheVariants as spec
 use Rattle.plan_ends.proofs.KindLaws.{all-worked-at, is-among, kept-rows, made-typed, stays-open}
 
@@ -83,7 +83,7 @@ waiting p wait = wait ++ first_rows 32 (unworked_at p.work)
 -- A box that passes rows on as they are gives the rows of its inputs by its outputs; some wait.
 pub gives-resized : {s : Spec} {files : Files} {takes gives : ℕ} {p : BoxPicture}
     {ins outs : Lists} → KeepsContract s files takes gives p ins outs → (n : ℕ) (wait : List Row)
-    → 0 < gives → (HasReadEnough (Some s) ins → ⊥) → (m : KeepsMade s p ins outs)
+    → 0 < gives → (HasReadEnough (Some s) ins → ⊥) → (m : KeepsWorked s p ins outs)
     → AreResized m.worked outs wait → (IsOver s p.work → wait ≡ [])
     → GivesResized (at_ports (in_stream p ins) n 0 takes) (at_ports (out_stream p outs) n 0 gives)
 unfolding first_rows

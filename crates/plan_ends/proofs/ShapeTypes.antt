@@ -1,5 +1,5 @@
 -- The types of the rows that a query's shape makes, and of the columns and arguments of its groups.
-use Rattle.plan_ends.proofs.Imports.{List, None, Option, Some, [], ap, length, map, refl, slice_index_or, ℕ, ◌<◌, ◌∷◌, ◌≡◌, AggCall, AggOp, All, All-cons, All-head, All-nil, All-tail, AllByRecursion, ColumnType, Expr, Grouped, HasCalls, IsCall, IsItem, IsTypedArgument, IsTypedCall, IsTypedShape, Plain, Shape, argument_types, call_arguments, column_items, group_row_types, state_call, type_of}
+use Rattle.plan_ends.proofs.Imports.{List, None, Option, Some, StateCall, [], ap, false, length, map, refl, slice_index_or, sums_texts, ℕ, ◌<◌, ◌∷◌, ◌≡◌, AggCall, AggOp, All, All-cons, All-head, All-nil, All-tail, AllByRecursion, ColumnType, Expr, Grouped, HasCalls, IsCall, IsItem, IsTypedArgument, IsTypedCall, IsTypedShape, Plain, Shape, argument_types, call_arguments, column_items, group_row_types, state_call, type_of}
 use Rattle.chunk_data.specs.declared.typed_value.ColumnType.TheVariants as column
 use Rattle.query_model.specs.declared.query.AggOp.TheVariants as agg
 use Rattle.query_model.specs.declared.query.ExprOf.TheVariants as expr
@@ -39,6 +39,24 @@ calls-fit types (call ∷ calls) h =
     go agg.Sum (Some e) t m = ((refl, m.0), more e t.0 m.1, ap (λ l. type_of e types ∷ l) m.2)
     go op None t m = absurd t
     go op (Some e) t m = ((refl, m.0), more e t m.1, ap (λ l. type_of e types ∷ l) m.2)
+
+-- no typed call sums texts
+pub sums-no-texts : (types : List ColumnType) (calls : List (AggCall ℕ))
+    → All (IsTypedCall types) calls
+    → All (λ (call : StateCall). sums_texts call ≡ false) (map (state_call types) calls)
+sums-no-texts types [] h = All-nil (λ (call : StateCall). sums_texts call ≡ false)
+sums-no-texts types (call ∷ calls) h =
+    All-cons (λ (call : StateCall). sums_texts call ≡ false) (state_call types call) _
+    (go call.op call.arg (All-head (IsTypedCall types) call calls h))
+    (sums-no-texts types calls (All-tail (IsTypedCall types) call calls h))
+  where
+    go : (op : AggOp) (arg : Option Expr) → IsTypedArgument types op arg
+        → sums_texts (state_call types (record { op = op; arg = arg })) ≡ false
+    go agg.Sum (Some e) t = t.1
+    go agg.Sum None t = absurd t
+    go agg.Count arg t = refl
+    go agg.Min arg t = refl
+    go agg.Max arg t = refl
 
 pub has-calls : (types : List ColumnType) (s : Shape) → IsTypedShape types s → HasCalls s
 has-calls types (Plain items) t = tt

@@ -1,5 +1,5 @@
 -- What a sort and a merge keep is what they give.
-use Rattle.plan_ends.proofs.Imports.{Bool, IsPermutation, IsSorted, List, Some, [], ap, append_assoc, arith, false, inl, inr, length, length-append, not, refl, subst, suc, sym, true, zero, ℕ, ◌++◌, ◌+◌, ◌<◌, ◌∙◌, ◌∷◌, ◌≡◌, ◌≤◌, All-nil, AllByRecursion, AllFit, AreInputsSorted, AreMerged, BoxPicture, Contains-append_left, FitFrom, FitsInput, FitsOrder, GivesHeld, GivesMerged, HoldsBack, IsBeforeNone, IsPermutation-append_left, IsPermutation-trans, IsReadUp, IsSortOf, KeepsMade, Lists, NotesEnd, Row, SortKey, SortSpec, Spec, Stream, Table, rows_together, and_parts, append-nil, cases_eq, cases_lt, chunk_rows, every-append, every-contains, every-front, every-none, every-turned, every-weaker, first_rows, head_at, head_rows, is_lt, kept_output, kept_outputs, may-be-input, order-cross, order-from_sorted, order-front, own_of, past-open, row_cmp, rows-append, rows-ordered, stream_rows, sort-exists, sorted-from_order, unworked_at, KeepsContract, KindGives, chunk_types, in_stream, out_stream}
+use Rattle.plan_ends.proofs.Imports.{Bool, IsPermutation, IsSorted, KeepsWorked, List, Some, [], ap, append_assoc, arith, false, inl, inr, length, length-append, not, refl, subst, suc, sym, true, zero, ℕ, ◌++◌, ◌+◌, ◌<◌, ◌∙◌, ◌∷◌, ◌≡◌, ◌≤◌, All-nil, AllByRecursion, AllFit, AreInputsSorted, AreMerged, BoxPicture, Contains-append_left, FitFrom, FitsInput, FitsOrder, GivesHeld, GivesMerged, HoldsBack, IsBeforeNone, IsPermutation-append_left, IsPermutation-trans, IsReadUp, IsSortOf, Lists, NotesEnd, Row, SortKey, SortSpec, Spec, Stream, Table, rows_together, and_parts, append-nil, cases_eq, cases_lt, chunk_rows, every-append, every-contains, every-front, every-none, every-turned, every-weaker, first_rows, head_at, head_rows, is_lt, kept_output, kept_outputs, may-be-input, order-cross, order-from_sorted, order-front, own_of, past-open, row_cmp, rows-append, rows-ordered, stream_rows, sort-exists, sorted-from_order, unworked_at, KeepsContract, KindGives, chunk_types, in_stream, out_stream}
 use Rattle.query_model.specs.declared.processor_spec.Spec.TheVariants as spec
 use Rattle.plan_ends.proofs.KindLaws.{one-output, all-worked-at, at-ports, front-of, kept-rows, one-fits, stays-open, types-fit}
 use Rattle.plan_ends.proofs.ResizeLaws.{all-done, all-ports, at_ports, each-port, none-past, split-rows}
@@ -20,7 +20,7 @@ read-up {takes = takes} {p = p} k i lt n = grind (arith, may-be-input p takes i 
 
 -- where the ends of all inputs are noted, each is done and worked
 pub all-worked : {s : Spec} {files : _} {takes gives : ℕ} {p : BoxPicture} {ins outs : Lists}
-    → KeepsContract s files takes gives p ins outs → (m : KeepsMade s p ins outs)
+    → KeepsContract s files takes gives p ins outs → (m : KeepsWorked s p ins outs)
     → ((i : ℕ) → NotesEnd (Some s) (own_of p.work) i) → (i : ℕ)
     → ((in_stream p ins i).done ≡ true) × (m.worked i ≡ ins i)
 all-worked {takes = takes} {p = p} k m noted i = elim (cases_lt i takes) [
@@ -55,7 +55,7 @@ pub sort-gives : (order : SortSpec) → KindGives (spec.Sort order)
 sort-gives order files takes gives n p ins outs k =
     at-ports n 1 1 k.ports.0 k.ports.1
     (λ h. one-output n h (λ fit.
-    let m : KeepsMade (spec.Sort order) p ins outs =
+    let m : KeepsWorked (spec.Sort order) p ins outs =
     kept-rows h (one-fits (spec.Sort order) (FitsOrder order) ins (λ i t x. x) h.nothing_past
     fit.0) in
     gives-held (IsSortOf order.keys (chunk_rows (ins 0))) p outs (in_stream p ins 0).done
@@ -105,7 +105,7 @@ every-list P (suc n) lists h = every-append P (first_rows n lists) (chunk_rows (
 
 module _ (order : SortSpec) (files : _) (takes : ℕ) (p : BoxPicture) (ins outs : Lists)
     (k : KeepsContract (spec.MergeSorted order) files takes 1 p ins outs)
-    (m : KeepsMade (spec.MergeSorted order) p ins outs) where
+    (m : KeepsWorked (spec.MergeSorted order) p ins outs) where
   abbrev keys : List SortKey
   keys = order.keys
 

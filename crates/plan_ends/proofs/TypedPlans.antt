@@ -1,9 +1,9 @@
 -- The types that stand at the open ends of a plan. Each block stands before nodes that fit the
 -- types that it leaves.
 use Rattle.std.proofs.lemmas.Grind.{common_steps}
-use Rattle.plan_ends.proofs.Imports.{IfSome, List, None, Option, Some, [], ap, append_assoc, ap₂, arith, length, length-append, map, refl, replicate, subst, suc, sym, zero, ℕ, ◌++◌, ◌∙◌, ◌∷◌, ◌≡◌, All, All-append, AllByRecursion, AllTyped, AreKeyPairs, Cond, DraftNode, Expr, FitsInput, FitsOrder, GroupSpec, Grouped, IsAmong, IsItem, IsTypedFilter, IsTypedShape, OneType, Plain, PlanJoin, SelectPlan, Shape, SortSpec, Span, Spec, Types, TypesFit, TypesTo, append-nil, body_nodes, call_arguments, collector, column_items, filter_nodes, gather_nodes, group_row_types, group_spec, spec_group_types, joint_node, lane_nodes, lane_steps, length-replicate, limit_nodes, map-append, map-map, partial_types, passes-type, plan_nodes, read-is, read_nodes, read_steps, replaced-at, run-at, select_steps, shape_nodes, shape_of, sort_nodes, source_nodes, taken_by, type_of, typed-all, typed-append, ⊤, join_step, sort_step, merge_step}
+use Rattle.plan_ends.proofs.Imports.{IfSome, List, None, Option, Some, SumsNoTexts, [], ap, append_assoc, ap₂, arith, length, length-append, map, refl, replicate, subst, suc, sym, zero, ℕ, ◌++◌, ◌∙◌, ◌∷◌, ◌≡◌, All, All-append, AllByRecursion, AllTyped, AreKeyPairs, Cond, DraftNode, Expr, FitsInput, FitsOrder, GroupSpec, Grouped, IsAmong, IsItem, IsTypedFilter, IsTypedShape, OneType, Plain, PlanJoin, SelectPlan, Shape, SortSpec, Span, Spec, Types, TypesFit, TypesTo, append-nil, body_nodes, call_arguments, collector, column_items, filter_nodes, gather_nodes, group_row_types, group_spec, spec_group_types, joint_node, lane_nodes, lane_steps, length-replicate, limit_nodes, map-append, map-map, partial_types, passes-type, plan_nodes, read-is, read_nodes, read_steps, replaced-at, run-at, select_steps, shape_nodes, shape_of, sort_nodes, source_nodes, taken_by, type_of, typed-all, typed-append, ⊤, join_step, sort_step, merge_step}
 use Rattle.query_model.specs.declared.processor_spec.Spec.TheVariants as spec
-use Rattle.plan_ends.proofs.ShapeTypes.{calls-fit, columns-are, columns-fit, shape_types, type_at}
+use Rattle.plan_ends.proofs.ShapeTypes.{calls-fit, columns-are, columns-fit, shape_types, sums-no-texts, type_at}
 
 -- ---- kinds
 
@@ -137,6 +137,7 @@ module _ (after : List Types) where
       let w : Types = group_row_types g u in
       let same : w ≡ spec_group_types groups = grind (arith, map-map) in
       let calls = calls-fit u g.calls t.calls in
+      let summed : SumsNoTexts groups = sums-no-texts u g.calls t.calls in
       let arguments : List Expr = column_items g.keys ++ call_arguments g.calls in
       simp append_assoc (lanes-typed _ (spec.Expression arguments) 6 0 k [] u (partial_types groups)
       refl (items-type arguments u (partial_types groups)
@@ -145,10 +146,14 @@ module _ (after : List Types) where
       (ap₂ (λ a b. a ++ b) (columns-are u g.keys) calls.2
       ∙ sym (map-append (λ e. type_of e u) (column_items g.keys) (call_arguments g.calls))))
       (lanes-typed _ (spec.PartialAggregate groups) 7 0 k [] (partial_types groups) w refl
-      (record { fit = (refl, tt); makes = λ t us all e. e ∙ sym same })
+      (record {
+        fit = (record { types_are = refl; summed = summed }, tt);
+        makes = λ t us all e. e ∙ sym same;
+      })
       (joint-typed _ (spec.MergeAggregate groups) 8 k 1 w w
       (record {
-        fit = each-fits (spec.MergeAggregate groups) 0 k w (λ i. same);
+        fit = each-fits (spec.MergeAggregate groups) 0 k w
+            (λ i. record { types_are = same; summed = summed });
         makes = λ t us all e. e ∙ sym same;
       })
       (filter-typed _ w g.having 9 1 t.having

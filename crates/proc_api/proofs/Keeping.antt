@@ -1,5 +1,5 @@
 -- How what a box keeps goes on with what a `prepare` pulls and pushes.
-use Rattle.proc_api.proofs.Imports.{All, AllFit, BoxPicture, ColumnType, FitsInput, HasReadEnough, IsPulled, List, Lists, MakesTypes, NotesEnd, Option, OwnState, Picture, PulledOn, Some, Spec, Table, [], ap, arith, cases_lt, chunk_rows, flat_map-append, get_or-append-add, get_or_append_left, get_or_default, inl, inr, last_count, length, length-append, no_table, pulled_at, raised, refl, rows_pulled, subst, suc, total_rows, with_pulled, zero, ℕ, ◌++◌, ◌+◌, ◌<◌, ◌∙◌, ◌≡◌, ◌⊎◌}
+use Rattle.proc_api.proofs.Imports.{All, All-head, All-tail, AllFit, AreFitting, BoxPicture, ColumnType, FitsInput, HasMade, HasReadEnough, IsOver, IsPulled, IsReadOut, IsWanting, KeepsMade, List, Lists, MakesTypes, NotesEnd, Option, OwnState, Picture, PulledOn, Reading, Row, Some, Spec, Table, [], ap, ap₂, arith, cases_lt, chunk_rows, file_of, flat_map-append, get_or-append-add, get_or_append_left, get_or_default, inl, inr, kept_output, last_count, length, length-append, no_table, own_of, pulled_at, raised, reading_of, refl, rows_pulled, subst, suc, total_rows, true, unworked_at, with_pulled, zero, ℕ, ◌++◌, ◌+◌, ◌<◌, ◌∙◌, ◌∷◌, ◌≡◌, ◌⊎◌}
 
 -- ---- chunks that were pulled
 
@@ -33,11 +33,6 @@ pub front-all : (P : Table → Type 0) (xs ys : List Table) → All P (xs ++ ys)
 front-all P xs ys h = λ k d lt. subst P (get_or_append_left xs ys d k lt)
     (h k d (let l = length-append xs ys in omega (arith, l, lt)))
 
-pub fits-front : (s : Option Spec) (v w : Picture) (ins : Lists) → AllFit s (with_pulled v w ins)
-    → AllFit s ins
-fits-front s v w ins h =
-    λ i. front-all (λ (t : Table). FitsInput s i t.types) (ins i) (pulled_at v w i) (h i)
-
 -- the last of the longer list was pulled
 pub pulled-last : (v w : Picture) (ins : Lists) (i : ℕ)
     → All (λ (t : Table). IsPulled (with_pulled v w ins) t.types) (pulled_at v w i)
@@ -48,6 +43,77 @@ pulled-last v w ins i = λ k d lt. record {
   is = ap (λ (t : Table). t.types) (get_or-append-add (ins i) (pulled_at v w i) k no_table
       ∙ get_or_default (pulled_at v w i) k no_table d lt);
 }
+
+-- ---- chunks that fit
+
+-- a chunk more that fits is one of those that fit, and one that doesn't isn't
+pub fitting-more : (P : Table → Type 0) (chunks fit : List Table) (t : Table) → P t
+    → AreFitting P chunks fit → AreFitting P (chunks ++ t ∷ []) (fit ++ t ∷ [])
+fitting-more P [] [] t p h = inl (p, refl, refl)
+fitting-more P [] (u ∷ fit) t p h = absurd (cc)
+fitting-more P (c ∷ chunks) [] t p h = inr (h.0, fitting-more P chunks [] t p h.1)
+fitting-more P (c ∷ chunks) (u ∷ fit) t p h = elim h [
+  | inl x ↦ inl (x.0, x.1, fitting-more P chunks fit t p x.2)
+  | inr x ↦ inr (x.0, fitting-more P chunks (u ∷ fit) t p x.1)
+]
+
+pub fitting-past : (P : Table → Type 0) (chunks fit : List Table) (t : Table) → (P t → ⊥)
+    → AreFitting P chunks fit → AreFitting P (chunks ++ t ∷ []) fit
+fitting-past P [] [] t n h = (n, refl)
+fitting-past P [] (u ∷ fit) t n h = absurd (cc)
+fitting-past P (c ∷ chunks) [] t n h = (h.0, fitting-past P chunks [] t n h.1)
+fitting-past P (c ∷ chunks) (u ∷ fit) t n h = elim h [
+  | inl x ↦ inl (x.0, x.1, fitting-past P chunks fit t n x.2)
+  | inr x ↦ inr (x.0, fitting-past P chunks (u ∷ fit) t n x.1)
+]
+
+-- where all fit they are those that fit
+pub all-fitting : (P : Table → Type 0) (chunks fit : List Table) → All P chunks
+    → AreFitting P chunks fit → fit ≡ chunks
+all-fitting P [] fit all h = h
+all-fitting P (c ∷ chunks) [] all h = absurd (h.0 (All-head P c chunks all))
+all-fitting P (c ∷ chunks) (u ∷ fit) all h = elim h [
+  | inl x ↦ ap₂ (λ a b. a ∷ b) x.1 (all-fitting P chunks fit (All-tail P c chunks all) x.2)
+  | inr x ↦ absurd (x.0 (All-head P c chunks all))
+]
+
+-- what is made of all chunks that were worked
+pub record KeepsWorked (s : Spec) (p : BoxPicture) (ins outs : Lists) : Type 0 where
+  pub worked : Lists
+  pub ins_are : (i : ℕ) → ins i ≡ worked i ++ unworked_at p.work i
+  pub rows : HasMade (reading_of p) s (own_of p.work) worked outs (chunk_rows p.work.made)
+  pub over : (o : ℕ) → (kept_output p o).fin_out ≡ true → IsOver s p.work
+  pub read : (o : ℕ) → (kept_output p o).fin_out ≡ true → IsReadOut s (file_of p)
+
+-- it is made where each chunk that was pulled fits
+pub worked-where-fit : (s : Spec) (p : BoxPicture) (ins outs : Lists) → AllFit (Some s) ins
+    → KeepsMade s p ins outs → KeepsWorked s p ins outs
+worked-where-fit s p ins outs all m =
+    let P : ℕ → Table → Type 0 = λ i (t : Table). FitsInput (Some s) i t.types in
+    let same : (i : ℕ) → m.fit i ≡ m.worked i = λ i.
+    all-fitting (P i) (m.worked i) (m.fit i)
+    (front-all (P i) (m.worked i) (unworked_at p.work i) (subst (All (P i)) (m.ins_are i) (all i)))
+    (m.fit_are i) in
+    record {
+      worked = m.worked;
+      ins_are = m.ins_are;
+      rows = subst (λ (l : Lists).
+          HasMade (reading_of p) s (own_of p.work) l outs (chunk_rows p.work.made))
+          (λ z i. same i z) m.rows;
+      over = m.over;
+      read = m.read;
+    }
+
+-- a limit that asks for data hasn't read enough
+pub wanting-not-enough : (s : Spec) (x : Reading) (own : OwnState) (worked fit outs : Lists)
+    (wait : List Row) → ((i : ℕ) → AreFitting (λ (t : Table). FitsInput (Some s) i t.types)
+    (worked i) (fit i)) → HasMade x s own fit outs wait → IsWanting (Some s) own.read
+    → HasReadEnough (Some s) worked → ⊥
+wanting-not-enough (Spec.Limit span) x own worked fit outs wait are made wanting enough =
+    let same = ap (λ l. length (chunk_rows l)) (all-fitting _ (worked 0) (fit 0) (λ k d lt. tt)
+    (are 0)) in
+    omega (arith, made.read_are, wanting, enough, same)
+wanting-not-enough s x own worked fit outs wait are made wanting enough = enough
 
 -- ---- counts
 

@@ -119,7 +119,7 @@ taken-both a b c (inr none) y =
 
 module _ (v u w : Picture) (sound : IsSound u) (a : ChangedByCalls v u)
     (b : ChangedByCalls u w) where
-  pulled-both : (i : ℕ) → pulled_at v w i ≡ pulled_at v u i ++ pulled_at u w i
+  pub pulled-both : (i : ℕ) → pulled_at v w i ≡ pulled_at v u i ++ pulled_at u w i
   pulled-both i =
       taken-both (input_at v i).chunk (input_at u i).chunk (input_at w i).chunk
       ((goes-on v u a).chunk i) ((goes-on u w b).chunk i)

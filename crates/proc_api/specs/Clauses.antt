@@ -1,15 +1,15 @@
 -- The clauses of a processor's calls, over what is seen of the box before and after a call.
 use Rattle.std.specs.Prelude.{◌+◌, ◌<◌, ◌≡◌, ◌≢◌, ◌≤◌, ◌⊎◌}
-use Rattle.proc_api.specs.Prelude.{Answer, Files, Growth, IfSome, InputPort, IsAllFinished, IsSome, IsTrue, Kind, List, LoadRefusal, None, Option, Picture, Prepared, Scheduled, Some, Spec, Status, WaitsForData, WaitsForRoom, Wake, WorkFault, bad_line_in, false, file_bytes, kind_of, length, map, out_count, part_bad_place, true, ℕ, ⊤}
+use Rattle.proc_api.specs.Prelude.{Answer, Files, Growth, IfSome, InputPort, IsAllFinished, IsSome, IsTrue, Kind, List, LoadRefusal, None, Option, Picture, Prepared, Scheduled, Some, Spec, Status, WaitsForData, WaitsForRoom, Wake, WorkFault, [], bad_line_in, false, file_bytes, kind_of, length, map, out_count, part_bad_place, true, ℕ, ⊤}
 use Rattle.query_model.specs.declared.processor_spec.Kind.TheVariants as kind
 use Rattle.proc_api.specs.declared.status.Wake.TheVariants as wake
 use Rattle.proc_api.specs.declared.status.WorkFault.TheVariants as fault
 use Rattle.proc_api.specs.Boxes.{BoxPicture, FileSeen, PortFlags, file_of, no_notes}
 use Rattle.proc_api.specs.Forms.{growth_form}
-use Rattle.proc_api.specs.Histories.{Lists, chunk_rows, no_lists, raised, rows_pulled, with_pulled, with_pushed}
+use Rattle.proc_api.specs.Histories.{Lists, chunk_rows, no_lists, pulled_at, raised, rows_pulled, with_pulled, with_pushed}
 use Rattle.proc_api.specs.Keeping.{Keeps}
 use Rattle.proc_api.specs.Ports.{AllOutputsFinished, HasNoRoom, HasPorts, HasRoom, IsShut, SameChunks, StaysFit}
-use Rattle.proc_api.specs.SpecContracts.{IsWanting, MayGrow, OfPart}
+use Rattle.proc_api.specs.SpecContracts.{HasReadEnough, IsWanting, MayGrow, OfPart}
 
 -- ---- what stays
 
@@ -197,6 +197,11 @@ abbrev pub KeepsOver : BoxPicture → Picture → BoxPicture → Picture → Typ
 KeepsOver p v q w = (ins outs : Lists) → Keeps p ins outs
     → Keeps q (with_pulled v w ins) (with_pushed v w outs)
 
+-- a limit that had read enough of its lists pulls nothing
+abbrev pub PullsNoMore : BoxPicture → Picture → Picture → Type 0
+PullsNoMore p v w = (ins outs : Lists) → Keeps p ins outs → HasReadEnough p.spec ins
+    → (i : ℕ) → pulled_at v w i ≡ []
+
 -- each input is closed and each output is finished, and this was answered
 pub record ShutsDown (w : Picture) (s : Status) : Type 0 where
   pub answer : s ≡ Status.Finished
@@ -218,7 +223,8 @@ pub record EndsAtOnce (v w : Picture) (s : Status) : Type 0 where
 
 -- A prepare of a lawful box, from the view v to w. The outputs are looked at first: where all are
 -- finished it ends, a chunk that waits is pushed where there is room, and nothing is fetched or
--- made where there is none. Where the view hasn't the ports of its spec and growth it shuts down.
+-- made where there is none. A limit pulls nothing once it has read enough. Where the view hasn't
+-- the ports of its spec and growth it shuts down.
 pub record PreparesLawfully (p : BoxPicture) (v : Picture) (q : BoxPicture) (w : Picture)
     (s : Status) : Type 0 where
   pub law : StatusHolds s w
@@ -227,6 +233,7 @@ pub record PreparesLawfully (p : BoxPicture) (v : Picture) (q : BoxPicture) (w :
   pub limits : KeepsLimits p q
   pub fits : StaysFit p v → q.notes.fits ≡ true
   pub keeps : StaysFit p v → KeepsOver p v q w
+  pub stops : StaysFit p v → PullsNoMore p v w
   pub ends : 0 < out_count v → AllOutputsFinished v → EndsAtOnce v w s
   pub pushes : 0 < length q.work.made → HasNoRoom w
   pub room : NeedsRoom s → 0 < out_count w → HasRoom w

@@ -1,12 +1,31 @@
 -- What a partial aggregate and a merge make of their rows.
-use Rattle.std.specs.Prelude.{◌++◌, ◌∷◌, ◌≡◌}
-use Rattle.proc_api.specs.Prelude.{AggCall, AggOp, AllByRecursion, Bool, ColumnType, ExprOf, FitsTypes, GroupSpec, IsPermutation, List, None, Row, Some, StateCall, [], combine_of, cond, count_up, default_value, false, groups, groups_or_default, length, map, merged_groups, suc, true, ℕ}
+use Rattle.std.specs.Prelude.{◌&&◌, ◌++◌, ◌∷◌, ◌≡◌}
+use Rattle.chunk_data.specs.Values.{is_text}
+use Rattle.proc_api.specs.Prelude.{AggCall, AggOp, All, AllByRecursion, Bool, ColumnType, ExprOf, FitsTypes, GroupSpec, IsPermutation, List, None, Row, Some, StateCall, [], combine_of, cond, count_up, default_value, false, groups, groups_or_default, length, map, merged_groups, suc, true, ℕ}
 use Rattle.proc_api.specs.Boxes.{OwnState}
 use Rattle.proc_api.specs.Histories.{chunk_rows}
 
 abbrev pub is_count : AggOp → Bool
 is_count AggOp.Count = true
 is_count _ = false
+
+abbrev pub is_sum : AggOp → Bool
+is_sum AggOp.Count = false
+is_sum AggOp.Sum = true
+is_sum AggOp.Min = false
+is_sum AggOp.Max = false
+
+-- whether a call sums texts
+abbrev pub sums_texts : StateCall → Bool
+sums_texts call = is_sum call.op && is_text call.kind
+
+abbrev pub SumsNoTexts : GroupSpec → Type 0
+SumsNoTexts g = All (λ (call : StateCall). sums_texts call ≡ false) g.calls
+
+-- the types are those of the input, and no call sums texts
+pub record FitsGroups (g : GroupSpec) (input types : List ColumnType) : Type 0 where
+  pub types_are : types ≡ input
+  pub summed : SumsNoTexts g
 
 -- The calls of a partial aggregate. Its input has the keys, and from column c on the argument of
 -- each call but `count`.

@@ -1,9 +1,9 @@
 -- The processor contract: what a box keeps of the chunks that it pulled and pushed.
-use Rattle.std.specs.Prelude.{◌++◌, ◌<◌, ◌≡◌, ◌≤◌, ◌⊎◌}
-use Rattle.proc_api.specs.Prelude.{All, None, Option, Prepared, Some, Spec, Status, Table, [], false, is_in_finished, length, max, no_flags, slice_index_or, true, ℕ, ⊤}
+use Rattle.std.specs.Prelude.{◌++◌, ◌<◌, ◌∷◌, ◌≡◌, ◌≤◌, ◌⊎◌}
+use Rattle.proc_api.specs.Prelude.{All, List, None, Option, Prepared, Some, Spec, Status, Table, [], false, is_in_finished, length, max, true, ℕ, ⊤}
 use Rattle.proc_api.specs.Boxes.{BoxPicture, PortFlags, WorkState, file_of, kept_input, kept_inputs, kept_output, kept_outputs, kept_ports, own_of, reading_of, unworked_at}
 use Rattle.proc_api.specs.Histories.{Lists, chunk_rows, last_count, total_rows}
-use Rattle.proc_api.specs.KindContract.{IsPulled}
+use Rattle.proc_api.specs.KindContract.{AreOpen, IsPulled}
 use Rattle.proc_api.specs.Ports.{is_ended}
 use Rattle.proc_api.specs.SpecContracts.{ArePortsOf, FitsInput, HasMade, HasNotedEnd, HasReadEnough, IsReadOut, IsWorkOf, MakesTypes, NotesEnd, most_rows}
 
@@ -17,12 +17,22 @@ pub record IsOver (s : Spec) (w : WorkState) : Type 0 where
   pub all_made : w.unmade ≡ []
   pub noted : HasNotedEnd s (own_of w)
 
--- The first chunks of each input are worked, and of them and of its file it has made what its kind
--- says.
+-- these are the chunks that fit, in order, and no other
+abbrev pub AreFitting : (Table → Type 0) → (chunks fit : List Table) → Type 0
+AreFitting P [] fit = fit ≡ []
+AreFitting P (t ∷ chunks) [] = (P t → ⊥) × AreFitting P chunks []
+AreFitting P (t ∷ chunks) (u ∷ fit) =
+    (P t × (u ≡ t) × AreFitting P chunks fit) ⊎ ((P t → ⊥) × AreFitting P chunks (u ∷ fit))
+
+-- The first chunks of each input are worked. Of those of them that fit, and of its file, it has
+-- made what its kind says: a chunk that doesn't fit is worked as if it weren't there.
 pub record KeepsMade (s : Spec) (p : BoxPicture) (ins outs : Lists) : Type 0 where
   pub worked : Lists
+  pub fit : Lists
   pub ins_are : (i : ℕ) → ins i ≡ worked i ++ unworked_at p.work i
-  pub rows : HasMade (reading_of p) s (own_of p.work) worked outs (chunk_rows p.work.made)
+  pub fit_are : (i : ℕ) → AreFitting (λ (t : Table). FitsInput (Some s) i t.types) (worked i)
+      (fit i)
+  pub rows : HasMade (reading_of p) s (own_of p.work) fit outs (chunk_rows p.work.made)
   pub over : (o : ℕ) → (kept_output p o).fin_out ≡ true → IsOver s p.work
   pub read : (o : ℕ) → (kept_output p o).fin_out ≡ true → IsReadOut s (file_of p)
 
@@ -74,11 +84,6 @@ pub record IsReadUp (p : BoxPicture) (i : ℕ) : Type 0 where
 
 -- ---- the contract
 
--- the processor has finished no output by itself, and closed no input
-pub record AreOpen (ports : PortFlags) : Type 0 where
-  pub outputs : (o : ℕ) → (slice_index_or ports.outputs o no_flags).fin_out ≡ false
-  pub inputs : (i : ℕ) → (slice_index_or ports.inputs i no_flags).fin_in ≡ false
-
 -- The kept view had the ports of the spec and growth, or those from before the growth, each open.
 abbrev pub HadPorts : Option PortFlags → BoxPicture → Type 0
 HadPorts None p = ⊤
@@ -95,8 +100,8 @@ pub record Keeps (p : BoxPicture) (ins outs : Lists) : Type 0 where
   pub opens : p.notes.answer ≡ Some (Prepared Status.ExpandPipeline)
       → AreOpen (kept_ports p.notes.view)
   pub idle : IsWorkOf p.spec p.work
-  -- what its kind keeps, as long as each chunk that was pulled fits
-  pub rows : AllFit p.spec ins → KeepsRows p.spec p ins outs
+  -- what its kind keeps of the chunks that fit
+  pub rows : KeepsRows p.spec p ins outs
   -- the types and sizes of the chunks that were pushed, and of those that are made
   pub types : (o : ℕ) → All (λ (t : Table). MakesTypes p.spec ins t.types) (outs o)
   pub made_types : All (λ (t : Table). MakesTypes p.spec ins t.types) p.work.made

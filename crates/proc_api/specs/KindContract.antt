@@ -1,8 +1,8 @@
 -- What is said of a kind of processors, in one record: that of each kind stands in the file of its
 -- name in `kinds/`, with the words of its own. Here is what several kinds share.
-use Rattle.std.specs.Prelude.{◌<◌, ◌≡◌}
-pub use Rattle.proc_api.specs.Prelude.{All, AllByRecursion, Bool, ColumnType, Cond, Contains, Edge, Expr, Files, GroupSpec, IfSome, IsItem, IsPermutation, IsSorted, IsTypedCond, JoinSpec, KeyPair, List, Me, New, None, Option, PartSpec, Row, Some, SortKey, SortSpec, Span, Table, Who, [], bad_line_in, bad_place, cond, count_by, drop, enough, false, file_bytes, filter, flat_map, good_rows, holds, is_lt, item_row, joined_rows, length, limited, list_all, map, min, nat_lt, numbers, part_records, paths_in, row_cmp, slice_index_or, suc, true, type_of, zero, ℕ, ⊤}
-pub use Rattle.proc_api.specs.Boxes.{FileSeen, InputHead, OwnState, PortFlags, Reading, WorkState, idle_work, unworked_at}
+use Rattle.std.specs.Prelude.{◌<◌, ◌≡◌, ◌⊎◌}
+pub use Rattle.proc_api.specs.Prelude.{All, AllByRecursion, Bool, ColumnType, Cond, Contains, Edge, Expr, Files, GroupSpec, IfSome, IsItem, IsPermutation, IsSorted, IsTypedCond, JoinSpec, KeyPair, List, Me, New, None, Option, PartSpec, Row, Some, SortKey, SortSpec, Span, Table, Who, [], bad_line_in, bad_place, cond, count_by, drop, enough, false, file_bytes, filter, flat_map, good_rows, holds, is_lt, item_row, joined_rows, length, limited, list_all, map, min, nat_lt, no_flags, numbers, part_records, paths_in, row_cmp, slice_index_or, suc, true, type_of, zero, ℕ, ⊤}
+pub use Rattle.proc_api.specs.Boxes.{FileSeen, InputHead, OwnState, PortFlags, Reading, WorkState, idle_work, kept_ports, unworked_at}
 pub use Rattle.proc_api.specs.Forms.{GrowthForm, unboxed}
 pub use Rattle.proc_api.specs.Histories.{Lists, all_rows, chunk_rows}
 
@@ -18,17 +18,27 @@ grown_inputs (Some g) = count_by (λ (e : Edge). is_me e.to.who) g.edges
 abbrev pub AreCounts : (inputs outputs m n : ℕ) → Type 0
 AreCounts inputs outputs m n = (inputs ≡ m) × (outputs ≡ n)
 
+-- the processor has finished no output by itself, and closed no input
+pub record AreOpen (ports : PortFlags) : Type 0 where
+  pub outputs : (o : ℕ) → (slice_index_or ports.outputs o no_flags).fin_out ≡ false
+  pub inputs : (i : ℕ) → (slice_index_or ports.inputs i no_flags).fin_in ≡ false
+
 -- as many ports as the last view had
 abbrev pub AreAsKept : Option PortFlags → (inputs outputs : ℕ) → Type 0
 AreAsKept None inputs outputs = ⊤
 AreAsKept (Some ports) inputs outputs =
     AreCounts inputs outputs (length ports.inputs) (length ports.outputs)
 
+-- as many, or any number as long as each port of the last view is open
+abbrev pub MayGrowOpen : Option PortFlags → (inputs outputs : ℕ) → Type 0
+MayGrowOpen kept inputs outputs = AreAsKept kept inputs outputs ⊎ AreOpen (kept_ports kept)
+
 -- ---- the record
 
 -- what is true of most kinds, and of few not
 pub record KindTraits : Type 1 where
-  -- where the spec fixes no number of ports, it is that of the last view
+  -- Where the spec fixes no number of ports, it is that of the last view. A kind that notes no end
+  -- of an input may get more as long as each port is open.
   pub still : Option PortFlags → (inputs outputs : ℕ) → Type 0
   -- it has noted the end of input i, before which it makes no rows, or pulls none of another
   pub notes : OwnState → ℕ → Type 0

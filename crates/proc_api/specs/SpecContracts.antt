@@ -51,7 +51,7 @@ contract_of (Some spec.Collect) = collect_contract
 abbrev pub ArePortsOf : Option Spec → Option GrowthForm → (inputs outputs : ℕ) → Type 0
 ArePortsOf s growth inputs outputs = (contract_of s).ports growth inputs outputs
 
--- where the spec fixes no number of ports, it is that of the last view
+-- where the spec fixes no number of ports, it is that of the last view, or may grow from that
 abbrev pub StandStill : Option Spec → Option PortFlags → (inputs outputs : ℕ) → Type 0
 StandStill s kept inputs outputs = (contract_of s).traits.still kept inputs outputs
 

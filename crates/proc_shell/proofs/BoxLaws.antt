@@ -1,12 +1,12 @@
 -- The clauses of the calls of a shell, from what its kernel and its notes do.
-use Rattle.proc_shell.proofs.Imports.{All, All-behind, All-cons, All-nil, AllFit, AllOutputsFinished, AnswerComes, Bool, BoxPicture, Continues, Err, Fails, FaultHolds, FaultInCall, FaultIsDue, Faults, FitsInput, FollowsKept, HasNotedEnd, HasSize, HasSpecPorts, Held, IfErr, IfSome, IsAtMost, IsBadFile, IsBegun, IsKernelOf, IsLoadRefused, IsPulled, IsRunning, IsShelled, IsSourceKind, IsValid, IsWorkOf, Keeps, KeepsLimits, KeepsMade, KernelState, Kind, List, Lists, LoadedShell, Loads, Made, Makes, MakesTypes, MayExpand, Means, Moves, None, Notes, NotesNoEnd, Nothing, Ok, OnOk, Option, OwnState, Passes, Picture, Prepared, PreparesLawfully, Progresses, ReaderView, Result, RowCount, ShellFails, ShellPrepares, ShellWorks, ShutsShell, Some, Spec, Status, StatusComes, Table, Takes, Unworked, WorkFault, Works, WorksHeld, [], ap, append-nil, ap₂, arith, both-same, changed-by-both, chunk_rows, common_steps, false, file_in, file_of, files_by, gathered_with, growth_in, held_made, held_option, held_unworked, in_count, inl, inr, is_some, is_wanted, kept_input, kept_inputs, kept_output, kept_outputs, kind_of, length, loaded_seen, most_rows, no_lists, no_table, none-pulled, noted_by, option_map, out_count, own_of, pulled_at, reading_of, refl, rows_if_some, rows_pulled, shell_seen, shell_state, source_of, subst, sym, total-nothing, total_rows, true, unworked_at, with_chunk, with_view, work_of, ℕ, ◌++◌, ◌+◌, ◌<◌, ◌==◌, ◌||◌, ◌∙◌, ◌∷◌, ◌≡◌, ◌≢◌, ◌≤◌, ◌⊎◌, HasMade}
+use Rattle.proc_shell.proofs.Imports.{All, All-cons, All-nil, AllOutputsFinished, AnswerComes, AreFitting, Bool, BoxPicture, Continues, Err, Fails, FaultHolds, FaultInCall, FaultIsDue, Faults, FitsInput, FollowsKept, HasNotedEnd, HasSize, HasSpecPorts, Held, IfErr, IfSome, IsAtMost, IsBadFile, IsBegun, IsKernelOf, IsLoadRefused, IsPulled, IsRunning, IsShelled, IsSourceKind, IsValid, IsWorkOf, Keeps, KeepsLimits, KeepsMade, KernelState, Kind, List, Lists, LoadedShell, Loads, Made, Makes, MakesTypes, MayExpand, Means, Moves, None, Notes, NotesNoEnd, Nothing, Ok, OnOk, Option, OwnState, Passes, Picture, Prepared, PreparesLawfully, Progresses, ReaderView, Result, RowCount, ShellFails, ShellPrepares, ShellWorks, ShutsShell, Some, Spec, Status, StatusComes, Table, Takes, Unworked, WorkFault, Works, WorksHeld, [], ap, append-nil, ap₂, arith, both-same, by-place, changed-by-both, chunk_rows, common_steps, false, file_in, file_of, files_by, fitting-more, fitting-past, gathered_with, growth_in, held_made, held_option, held_unworked, in_count, inl, inr, is_some, is_wanted, kept_input, kept_inputs, kept_output, kept_outputs, kind_of, length, loaded_seen, most_rows, no_lists, no_table, none-pulled, noted_by, option_map, out_count, own_of, pulled_at, reading_of, refl, rows_if_some, rows_pulled, shell_seen, shell_state, source_of, subst, sym, total-nothing, total_rows, true, unworked_at, with_chunk, with_view, work_of, ℕ, ◌++◌, ◌+◌, ◌<◌, ◌==◌, ◌||◌, ◌∙◌, ◌∷◌, ◌≡◌, ◌≢◌, ◌≤◌, ◌⊎◌, HasMade}
 use Rattle.query_model.specs.declared.processor_spec.Kind.TheVariants as kind
 use Rattle.proc_api.specs.declared.status.Status.TheVariants as status
 use Rattle.proc_api.specs.declared.status.WorkFault.TheVariants as fault
 use Rattle.proc_api.specs.declared.status.LoadRefusal.TheVariants as refusal
 use Rattle.proc_shell.proofs.PortMoves.{never-true, shut-law, total-one}
-use Rattle.proc_shell.proofs.KeepLaws.{all-none, cond-none, end-own, had-same, keeps-over, made-hidden, made-shown, noted-own, pulled-so}
-use Rattle.proc_shell.proofs.Through.{chunk-here}
+use Rattle.proc_shell.proofs.KeepLaws.{all-none, cond-none, end-own, had-same, keeps-over, made-hidden, made-shown, noted-own, pulled-so, stops}
+use Rattle.proc_shell.proofs.Through.{chunk-elsewhere, chunk-here}
 
 -- ---- a chunk that can be pushed
 
@@ -73,6 +73,8 @@ module _ (k : Kind) (d : Option ReaderView) (count : RowCount) (s : Spec) (p : L
   unfolding kept_output
   fresh-meant = record {
     worked = no_lists;
+    fit = no_lists;
+    fit_are = λ i. refl;
     ins_are = λ i. sym
         (cond-none (i == source_of p.held) (held_unworked p.held) (ap held_unworked x.held));
     rows =
@@ -96,7 +98,7 @@ module _ (k : Kind) (d : Option ReaderView) (count : RowCount) (s : Spec) (p : L
     opens = λ e. let f : None ≡ Some (Prepared status.ExpandPipeline) = rw x.notes at e in
         absurd (cc);
     idle = x.uses;
-    rows = λ f. fresh-meant;
+    rows = fresh-meant;
     types = λ o. All-nil (λ (t : Table). MakesTypes (Some p.kernel.spec) no_lists t.types);
     made_types = rw x.held
         (All-nil (λ (t : Table). MakesTypes (Some p.kernel.spec) no_lists t.types));
@@ -201,6 +203,7 @@ module _ (k : Kind) (d : Option ReaderView) (p : LoadedShell) (b : OwnState) (j 
             p.notes.fits refl x.notes run.faultless;
         fits = λ fit. ap (λ z. z.fits) x.notes ∙ fit.fits;
         keeps = keeps-over k d p.kernel b p.held j p.notes notes n m v w st so x few ports f;
+        stops = stops k d p.kernel b p.held j p.notes notes n m v w st so x few ports f;
         ends = λ some each.
             let all : AllOutputsFinished x.view = λ o lt.
             ap₂ (λ a b. a || b) (x.pushes.finished o) (x.pushes.closed o)
@@ -278,15 +281,15 @@ module _ (k : Kind) (d : Option ReaderView) (count : RowCount) (x : KernelState)
       cond-none (i == source_of (held_option o)) (held_unworked (held_option o)) (held-worked o)
 
   meant-before : (h : Held) (ins outs : Lists) (t : KeepsMade s (P h) ins outs)
-      → Means (reading_of (P h)) s x.own t.worked outs (chunk_rows (held_made h))
+      → Means (reading_of (P h)) s x.own t.fit outs (chunk_rows (held_made h))
   meant-before h ins outs t =
-      made-hidden s (reading_of (P h)) x.own t.worked outs (chunk_rows (held_made h)) t.rows
+      made-hidden s (reading_of (P h)) x.own t.fit outs (chunk_rows (held_made h)) t.rows
 
-  meant-after : (worked outs : Lists) → Means (reading_of Q) s b worked outs (rows_if_some o)
-      → HasMade (reading_of Q) s (own_of Q.work) worked outs (chunk_rows Q.work.made)
-  meant-after worked outs h =
-      made-shown s (reading_of Q) b worked outs (chunk_rows Q.work.made)
-      (subst (Means (reading_of Q) s b worked outs) (sym (held-rows o)) h)
+  meant-after : (fit outs : Lists) → Means (reading_of Q) s b fit outs (rows_if_some o)
+      → HasMade (reading_of Q) s (own_of Q.work) fit outs (chunk_rows Q.work.made)
+  meant-after fit outs h =
+      made-shown s (reading_of Q) b fit outs (chunk_rows Q.work.made)
+      (subst (Means (reading_of Q) s b fit outs) (sym (held-rows o)) h)
 
   -- nothing was held, and rows were made
   makes-meant : Makes s x.own b o → (ins outs : Lists) → KeepsMade s (P Nothing) ins outs
@@ -294,10 +297,12 @@ module _ (k : Kind) (d : Option ReaderView) (count : RowCount) (x : KernelState)
   unfolding kept_output
   makes-meant y ins outs t = record {
     worked = t.worked;
+    fit = t.fit;
     ins_are = λ i. t.ins_are i ∙ ap (λ l. t.worked i ++ l)
         (cond-none (i == 0) [] refl ∙ sym (none-left i));
-    rows = meant-after t.worked outs
-        (y.means (reading_of Q) t.worked outs (meant-before Nothing ins outs t));
+    fit_are = t.fit_are;
+    rows = meant-after t.fit outs
+        (y.means (reading_of Q) t.fit outs (meant-before Nothing ins outs t));
     over = λ i fin.
         let was = t.over i fin in
         let nothing = y.nothing was.all_made in
@@ -312,30 +317,60 @@ module _ (k : Kind) (d : Option ReaderView) (count : RowCount) (x : KernelState)
     read = t.read;
   }
 
-  -- the chunk was worked, which was the last of its input, and fits where all that were pulled fit
+  abbrev Fits : ℕ → Table → Type 0
+  Fits i t = FitsInput (Some s) i t.types
+
+  -- a chunk that was worked is one of those that fit, or none of them
+  fit-one : (i : ℕ) (c : Table) (worked fit : Lists) → Fits i c
+      → ((j : ℕ) → AreFitting (Fits j) (worked j) (fit j)) → (j : ℕ)
+      → AreFitting (Fits j) (with_chunk i c worked j) (with_chunk i c fit j)
+  fit-one i c worked fit fits are j =
+      by-place (λ n. AreFitting (Fits n) (with_chunk i c worked n) (with_chunk i c fit n)) i j
+      (rw (chunk-here i c worked, chunk-here i c fit)
+      (fitting-more (Fits i) (worked i) (fit i) c fits (are i)))
+      (λ ne. rw (chunk-elsewhere i j c worked ne, chunk-elsewhere i j c fit ne) (are j))
+
+  fit-none : (i : ℕ) (c : Table) (worked fit : Lists) → (Fits i c → ⊥)
+      → ((j : ℕ) → AreFitting (Fits j) (worked j) (fit j)) → (j : ℕ)
+      → AreFitting (Fits j) (with_chunk i c worked j) (fit j)
+  fit-none i c worked fit misfit are j =
+      by-place (λ n. AreFitting (Fits n) (with_chunk i c worked n) (fit n)) i j
+      (rw (chunk-here i c worked) (fitting-past (Fits i) (worked i) (fit i) c misfit (are i)))
+      (λ ne. rw (chunk-elsewhere i j c worked ne) (are j))
+
+  -- the chunk was worked, which was the last of its input: it fits, or it was dropped
   takes-meant : (i : ℕ) (c : Table) → Takes s x.own i c b o → (ins outs : Lists)
-      → AllFit (Some s) ins → KeepsMade s (P (Unworked i c)) ins outs → KeepsMade s Q ins outs
+      → KeepsMade s (P (Unworked i c)) ins outs → KeepsMade s Q ins outs
   unfolding kept_output
-  takes-meant i c y ins outs fit t =
-      let F : Table → Type 0 = λ (z : Table). FitsInput (Some s) i z.types in
-      let last = subst (All F) (t.ins_are i ∙ chunk-here i c t.worked) (fit i) in
-      record {
+  takes-meant i c y ins outs t =
+      let before = meant-before (Unworked i c) ins outs t in
+      let with : (fit : Lists)
+      → ((j : ℕ) → AreFitting (Fits j) (with_chunk i c t.worked j) (fit j))
+      → Means (reading_of Q) s b fit outs (rows_if_some o) → KeepsMade s Q ins outs =
+      λ fit are made. record {
         worked = with_chunk i c t.worked;
+        fit = fit;
         ins_are = λ j. t.ins_are j ∙ sym (append-nil (with_chunk i c t.worked j))
             ∙ ap (λ l. with_chunk i c t.worked j ++ l) (sym (none-left j));
-        rows = meant-after (with_chunk i c t.worked) outs (y.means (reading_of Q)
-            (All-behind F (t.worked i) (c ∷ []) last 0 no_table (omega arith)) t.worked outs
-            (meant-before (Unworked i c) ins outs t));
+        fit_are = are;
+        rows = meant-after fit outs made;
         over = λ j fin. let none = (t.over j fin).all_worked in absurd (cc);
         read = t.read;
-      }
+      } in
+      elim y.fits [
+        | inl fits ↦ with (with_chunk i c t.fit) (fit-one i c t.worked t.fit fits t.fit_are)
+            (y.means (reading_of Q) fits t.fit outs before)
+        | inr drops ↦ with t.fit (fit-none i c t.worked t.fit drops.misfit t.fit_are)
+            (subst (λ l. Means (reading_of Q) s b t.fit outs (rows_if_some l)) (sym drops.none)
+            (subst (λ z. Means (reading_of Q) s z t.fit outs []) (sym drops.same) before))
+      ]
 
   makes-on : (0 < length (rows_if_some o)) ⊎ (b.unmade ≡ []) → IsValid x o
       → Progresses (P Nothing) Q
   makes-on y valid = grind (arith, common_steps, held-rows, held-worked)
 
-  works-held : (h : Held) → ((ins outs : Lists) → AllFit (Some s) ins
-      → KeepsMade s (P h) ins outs → KeepsMade s Q ins outs)
+  works-held : (h : Held) → ((ins outs : Lists) → KeepsMade s (P h) ins outs
+      → KeepsMade s Q ins outs)
       → IfSome o (λ (t : Table). IsAtMost (most_rows (Some s)) (length t.rows))
       → ((ins : Lists) → All (λ (t : Table). IsPulled ins t.types) (held_unworked h)
       → IfSome o (λ (t : Table). MakesTypes (Some s) ins t.types))
@@ -359,7 +394,7 @@ module _ (k : Kind) (d : Option ReaderView) (count : RowCount) (x : KernelState)
           ports = had-same n.view (P h) Q refl refl kept.ports;
           opens = kept.opens;
           idle = so.uses;
-          rows = λ fit. meant ins outs fit (kept.rows fit);
+          rows = meant ins outs kept.rows;
           types = kept.types;
           made_types = λ i z lt. (typed i z lt).1;
           sizes = kept.sizes;
@@ -383,7 +418,7 @@ module _ (k : Kind) (d : Option ReaderView) (count : RowCount) (x : KernelState)
 
   makes-works : Makes s x.own b o → IsValid x o → IsRunning (P Nothing) → Works (P Nothing) Q
   makes-works y valid =
-      works-held Nothing (λ ins outs fit. makes-meant y ins outs) y.sizes
+      works-held Nothing (makes-meant y) y.sizes
       (λ ins pulled. y.types ins) y.ends (makes-on y.progress valid)
 
   takes-works : (i : ℕ) (c : Table) → Takes s x.own i c b o → IsRunning (P (Unworked i c))

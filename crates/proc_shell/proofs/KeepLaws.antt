@@ -1,5 +1,5 @@
 -- A shell keeps the contract of its kernel's kind over a prepare.
-use Rattle.proc_shell.proofs.Imports.{All, All-append, All-behind, All-weaker, AllFit, AllOutputsClosed, AnswerComes, AreOpen, ArePortsOf, Bool, BoxPicture, Continues, CountsRows, EndsNow, Flags, FollowsKept, GrowthForm, HadPorts, HasEnough, HasNotedEnd, HasReadEnough, HasSize, HasSpecPorts, Held, InputFollows, IsOver, IsPulled, IsReadUp, Keeps, KeepsMade, KeepsOver, KernelState, Kind, List, Lists, MakesTypes, MayBeInput, Means, Moves, None, Notes, NotesEnd, Nothing, Option, OwnState, Passes, Picture, PortFlags, Prepared, PullsOne, Pushes, ReaderView, RowCount, Some, Spec, StandStill, Status, StaysFit, Table, [], all_port_flags, ap, append-nil, append_assoc, append_cancel_right, ap₂, arith, both_ways, by-place, cases_eq, cases_lt, chunk_rows, common_steps, cond, cond_both, counted-more, enough-more, eq-eqb, false, false_from_ne_true, fits-front, front-all, gathered_with, get_or, growth_in, held_made, held_unworked, in_count, inl, input_at, inr, is_ended, is_in_finished, is_out_finished, kept_input, kept_input-of, kept_input-past, kept_inputs, kept_inputs-of, kept_output, kept_output-of, kept_output-past, kept_outputs, kept_outputs-of, kept_ports, length, loaded_seen, makes-more, may-be-input, ne_eqb, never-enough, not-true, or_cases, out_count, output_at, own_of, pulled-last, pulled-more, pulled_at, pushed_at, raised, reading_of, refl, rows_pulled, shell_state, source_of, subst, sym, taken_out, total_rows, true, unworked_at, with_pulled, with_pushed, ℕ, ◌++◌, ◌<◌, ◌==◌, ◌||◌, ◌∙◌, ◌∷◌, ◌≡◌, ◌≢◌, ◌≤◌, ◌⊎◌, HasMade, Reading, Row}
+use Rattle.proc_shell.proofs.Imports.{All, All-append, All-behind, All-weaker, AllOutputsClosed, AnswerComes, AreOpen, ArePortsOf, Bool, BoxPicture, Continues, CountsRows, EndsNow, Flags, FollowsKept, GrowthForm, HadPorts, HasEnough, HasNotedEnd, HasReadEnough, HasSamePorts, HasSize, HasSpecPorts, Held, InputFollows, IsOver, IsPulled, IsReadUp, Keeps, KeepsMade, KeepsOver, KernelState, Kind, List, Lists, MakesTypes, MayBeInput, Means, Moves, None, Notes, NotesEnd, Nothing, Option, OwnState, Passes, Picture, PortFlags, Prepared, PullsNoMore, PullsOne, Pushes, ReaderView, RowCount, Some, Spec, StandStill, Status, StaysFit, Table, [], all-fitting, all_port_flags, ap, append-nil, append_assoc, append_cancel_right, ap₂, arith, both_ways, by-place, cases_eq, cases_lt, chunk_rows, common_steps, cond, cond_both, counted-more, enough-more, eq-eqb, false, false_from_ne_true, front-all, gathered_with, get_or, growth_in, held_made, held_unworked, in_count, inl, input_at, inr, is_ended, is_in_finished, is_out_finished, kept_input, kept_input-of, kept_input-past, kept_inputs, kept_inputs-of, kept_output, kept_output-of, kept_output-past, kept_outputs, kept_outputs-of, kept_ports, length, loaded_seen, makes-more, may-be-input, ne_eqb, never-enough, not-true, or_cases, out_count, output_at, own_of, pulled-last, pulled-more, pulled_at, pushed_at, raised, reading_of, refl, rows_pulled, shell_state, source_of, subst, sym, taken_out, total_rows, true, unworked_at, wanting-not-enough, with_pulled, with_pushed, ℕ, ◌++◌, ◌<◌, ◌==◌, ◌||◌, ◌∙◌, ◌∷◌, ◌≡◌, ◌≢◌, ◌≤◌, ◌⊎◌, HasMade, Reading, Row}
 use Rattle.query_model.specs.declared.processor_spec.Spec.TheVariants as spec
 use Rattle.proc_api.specs.declared.status.Status.TheVariants as status
 use Rattle.proc_shell.proofs.PortMoves.{all-or, both-none, kept-count, never-true, outs-count}
@@ -133,10 +133,10 @@ module _ (kind : Kind) (d : Option ReaderView) (kernel : KernelState) (b : OwnSt
   pushed-others : (o : ℕ) → o ≢ g.pushes.out → pushed_at v w o ≡ []
   pushed-others o ne = pushed-is o ∙ g.pushes.others o ne
 
-  -- where flags are kept, they are those of as many ports as the view has
+  -- where flags are kept, they are those of as many ports as the view has, or open
   same-counts : (kept : PortFlags) → first.view ≡ Some kept
       → ArePortsOf (Some s) growth (length kept.inputs) (length kept.outputs)
-      → (in_count v ≡ length kept.inputs) × (out_count v ≡ length kept.outputs)
+      → HasSamePorts s kept (in_count v) (out_count v)
   same-counts kept e had =
       so.shelled.still growth kept (in_count v) (out_count v) had ports
       (subst (λ x. StandStill (Some s) x (in_count v) (out_count v)) e fit.still)
@@ -150,20 +150,25 @@ module _ (kind : Kind) (d : Option ReaderView) (kernel : KernelState) (b : OwnSt
           ⊎ ((length (kept_ports x).inputs ≡ in_count v)
           × (length (kept_ports x).outputs ≡ out_count v))
       go None e had = inl (record { outputs = λ o. refl; inputs = λ i. refl })
-      go (Some kept) e (inl had) = let n = same-counts kept e had in inr (sym n.0, sym n.1)
+      go (Some kept) e (inl had) = elim (same-counts kept e had)
+          [ inl n ↦ inr (sym n.0, sym n.1) | inr open' ↦ inl open'.0 ]
       go (Some kept) e (inr had) = inl had.1
 
   noted-counts : (i : ℕ) → NotesEnd (Some s) a i → HadPorts first.view p
       → (first.view ≡ None) ⊎ (kept_inputs p ≡ in_count v)
   unfolding kept_inputs
-  noted-counts i n = go first.view refl
+  noted-counts i noted = go first.view refl
     where
+      same : (kept : PortFlags) → HasSamePorts s kept (in_count v) (out_count v)
+          → length kept.inputs ≡ in_count v
+      same kept h = elim h [ inl n ↦ sym n.0 | inr open' ↦ absurd (open'.1 a i noted) ]
+
       go : (x : Option PortFlags) → first.view ≡ x → HadPorts x p
           → (x ≡ None) ⊎ (length (kept_ports x).inputs ≡ in_count v)
       go None e had = inl refl
-      go (Some kept) e (inl had) = inr (sym (same-counts kept e had).0)
-      go (Some kept) e (inr had) = inr (sym (same-counts kept e
-          (noted-ports s a i _ _ growth n had.0)).0)
+      go (Some kept) e (inl had) = inr (same kept (same-counts kept e had))
+      go (Some kept) e (inr had) = inr (same kept (same-counts kept e
+          (noted-ports s a i _ _ growth noted had.0)))
 
   never-out : {X : Type 0} (o : ℕ) → AreOpen (kept_ports first.view)
       → (kept_output p o).fin_out ≡ true → X
@@ -233,7 +238,7 @@ module _ (kind : Kind) (d : Option ReaderView) (kernel : KernelState) (b : OwnSt
             ∙ sym (pulled-is i) ∙ ap (λ l. l ++ pulled_at v w i) (sym none)
       ]
     where
-      pulled-one : (x : PullsOne m k u w) (j : ℕ)
+      pulled-one : (x : PullsOne (record kernel { own = b }) m k u w) (j : ℕ)
           → cond (j == x.input) (x.chunk ∷ []) [] ≡ pulled_at u w j
       pulled-one x j =
           by-place (λ n. cond (n == x.input) (x.chunk ∷ []) [] ≡ pulled_at u w n) x.input j
@@ -286,11 +291,11 @@ module _ (kind : Kind) (d : Option ReaderView) (kernel : KernelState) (b : OwnSt
       elim (mv.finishes o lt x.1)
       [ inl before ↦ inl (omega (arith, lt, g.pushes.outs), before) | inr now ↦ inr now ]
 
-  made-rows : (outs worked : Lists) → Means (reading_of p) s a worked outs (chunk_rows (held_made
-      h)) → Means (reading_of p) s b worked (with_pushed v w outs) (chunk_rows (held_made k))
-  made-rows outs worked t =
-      g.turns.leaves.means (reading_of p) worked (with_pushed v w outs) (chunk_rows (held_made k))
-      (so.shelled.lets_push (reading_of p) a worked outs (with_pushed v w outs) growth (in_count v)
+  made-rows : (outs fit : Lists) → Means (reading_of p) s a fit outs (chunk_rows (held_made h))
+      → Means (reading_of p) s b fit (with_pushed v w outs) (chunk_rows (held_made k))
+  made-rows outs fit t =
+      g.turns.leaves.means (reading_of p) fit (with_pushed v w outs) (chunk_rows (held_made k))
+      (so.shelled.lets_push (reading_of p) a fit outs (with_pushed v w outs) growth (in_count v)
       (out_count v) g.pushes.out g.pushes.left (held_made k) ports
       (elim g.pushes.by [
         | inl x ↦ inl (
@@ -301,21 +306,23 @@ module _ (kind : Kind) (d : Option ReaderView) (kernel : KernelState) (b : OwnSt
         | inr none ↦ inr none
       ])
       (λ j ne. ap (λ l. outs j ++ l) (pushed-others j ne) ∙ append-nil (outs j))
-      (subst (λ l. Means (reading_of p) s a worked outs (chunk_rows l)) made-are t))
+      (subst (λ l. Means (reading_of p) s a fit outs (chunk_rows l)) made-are t))
 
   meant-before : (ins outs : Lists) (t : KeepsMade s p ins outs)
-      → Means (reading_of p) s a t.worked outs (chunk_rows p.work.made)
+      → Means (reading_of p) s a t.fit outs (chunk_rows p.work.made)
   meant-before ins outs t =
-      made-hidden s (reading_of p) a t.worked outs (chunk_rows p.work.made) t.rows
+      made-hidden s (reading_of p) a t.fit outs (chunk_rows p.work.made) t.rows
 
   pub through : (ins outs : Lists) → Keeps p ins outs → KeepsMade s p ins outs
       → KeepsMade s q (with_pulled v w ins) (with_pushed v w outs)
   through ins outs kept t = record {
     worked = t.worked;
+    fit = t.fit;
     ins_are = λ i. ap (λ l. l ++ pulled_at v w i) (t.ins_are i) ∙ append_assoc (t.worked i)
         (unworked_at p.work i) (pulled_at v w i) ∙ ap (λ l. t.worked i ++ l) (sym (unworked-is i));
-    rows = made-shown s (reading_of q) b t.worked (with_pushed v w outs) (chunk_rows (held_made k))
-        (made-rows outs t.worked (meant-before ins outs t));
+    fit_are = t.fit_are;
+    rows = made-shown s (reading_of q) b t.fit (with_pushed v w outs) (chunk_rows (held_made k))
+        (made-rows outs t.fit (meant-before ins outs t));
     over = λ o fin. elim (finishes-now o fin) [
       | inl before ↦ over-before ins outs kept t o before.0 before.1
       | inr now ↦ record {
@@ -331,19 +338,42 @@ module _ (kind : Kind) (d : Option ReaderView) (kernel : KernelState) (b : OwnSt
     ];
   }
 
+  -- where nothing is held, all chunks that were pulled are worked, and the kernel has made of those
+  -- that fit what it says
+  all-worked : (ins outs : Lists) (t : KeepsMade s p ins outs) → m ≡ Nothing
+      → ((i : ℕ) → ins i ≡ t.worked i)
+      × Means (reading_of p) s b t.fit outs (chunk_rows (held_made h))
+  all-worked ins outs t e =
+      let none : held_unworked h ≡ [] = sym g.pushes.unworked ∙ ap held_unworked e in (
+        λ i. t.ins_are i
+            ∙ ap (λ l. t.worked i ++ l) (cond-none (i == source_of h) (held_unworked h) none)
+            ∙ append-nil (t.worked i),
+        g.turns.leaves.means (reading_of p) t.fit outs (chunk_rows (held_made h))
+            (meant-before ins outs t),
+      )
+
   -- the kernel has read enough
   now-enough : (ins outs : Lists) → Keeps p ins outs → m ≡ Nothing → HasEnough s b
       → HasReadEnough (Some s) (with_pulled v w ins)
   now-enough ins outs kept e enough =
-      let fit : AllFit (Some s) ins = λ i j d lt. enough.any i (get_or (ins i) j d).types in
-      let t : KeepsMade s p ins outs = kept.rows fit in
-      let none : held_unworked h ≡ [] = sym g.pushes.unworked ∙ ap held_unworked e in
-      let all : (i : ℕ) → ins i ≡ t.worked i = λ i. t.ins_are i
-      ∙ ap (λ l. t.worked i ++ l) (cond-none (i == source_of h) (held_unworked h) none)
-      ∙ append-nil (t.worked i) in
-      enough-still ins (enough.enough (reading_of p) t.worked outs ins (chunk_rows (held_made h))
-      all (g.turns.leaves.means (reading_of p) t.worked outs (chunk_rows (held_made h))
-      (meant-before ins outs t)))
+      let t : KeepsMade s p ins outs = kept.rows in
+      let all = all-worked ins outs t e in
+      let fits : (i : ℕ) → t.fit i ≡ t.worked i = λ i. all-fitting _ (t.worked i) (t.fit i)
+      (λ j d lt. enough.any i (get_or (t.worked i) j d).types) (t.fit_are i) in
+      enough-still ins (enough.enough (reading_of p) t.fit outs ins (chunk_rows (held_made h))
+      (λ i. all.0 i ∙ sym (fits i)) all.1)
+
+  -- a kernel that had read enough pulls nothing
+  pub stops : PullsNoMore p v w
+  stops ins outs kept enough i = pulled-is i ∙ elim mv.pulls [
+    | inl x ↦ x.nothing i
+    | inr x ↦
+        let t : KeepsMade s p ins outs = kept.rows in
+        let all = all-worked ins outs t x.before in
+        absurd (wanting-not-enough s (record (reading_of p) { unworked = [] }) b t.worked t.fit outs
+        (chunk_rows (held_made h)) t.fit_are all.1 x.wanting
+        (subst (HasReadEnough (Some s)) (λ z j. all.0 j z) enough))
+  ]
 
   ends-finished : (ins outs : Lists) → Keeps p ins outs → (o : ℕ) → o < out_count v
       → (output_at w o).fin_out ≡ true
@@ -514,7 +544,7 @@ module _ (kind : Kind) (d : Option ReaderView) (kernel : KernelState) (b : OwnSt
             (opens-now (record kernel { own = b }) k w st mv.comes
             (sym (ap (λ z. z.answer) g.notes) ∙ e));
         idle = so.uses;
-        rows = λ f. through ins outs kept (kept.rows (fits-front (Some s) v w ins f));
+        rows = through ins outs kept kept.rows;
         types = λ o. All-append Q (outs o) (pushed_at v w o)
             (All-weaker P Q still (outs o) (kept.types o))
             (All-weaker P Q still (pushed_at v w o) (pushed-all P kept.made_types o));

@@ -17,7 +17,7 @@ list-pushes list x own worked outs more growth m n o pushed rest ports (inl at) 
 
 pub list_shelled : (list : PartSpec) → IsShelled (spec.List list)
 list_shelled list = record {
-  still = λ growth kept m n had h position. (h.0 ∙ sym had.0, h.1 ∙ sym had.1);
+  still = λ growth kept m n had h position. inl (h.0 ∙ sym had.0, h.1 ∙ sym had.1);
   enough_one = λ ins enough growth m n h. absurd enough;
   lets_push = list-pushes list;
 }
@@ -45,7 +45,9 @@ module _ (list : PartSpec) (p : BoxPicture) (spec' : p.spec ≡ Some (spec.List 
   unfolding kept_output
   rows-grown ins outs open' t = record {
     worked = t.worked;
+    fit = t.fit;
     ins_are = t.ins_are;
+    fit_are = t.fit_are;
     rows = record {
       knows = record {
         before = λ e. never-true _ e fetched;
@@ -72,9 +74,9 @@ module _ (list : PartSpec) (p : BoxPicture) (spec' : p.spec ≡ Some (spec.List 
     ports = ports-grown p.notes.view kept.ports (kept.opens asks);
     opens = kept.opens;
     idle = kept.idle;
-    rows = λ fit. subst (λ s. KeepsRows s grown ins outs) (sym spec')
+    rows = subst (λ s. KeepsRows s grown ins outs) (sym spec')
         (rows-grown ins outs (kept.opens asks)
-        (subst (λ s. KeepsRows s p ins outs) spec' (kept.rows fit)));
+        (subst (λ s. KeepsRows s p ins outs) spec' kept.rows));
     types = kept.types;
     made_types = kept.made_types;
     sizes = kept.sizes;

@@ -81,6 +81,7 @@ pub takes-resized : (own : OwnState) (i : ℕ) (t : Table) → i < 32
     → Takes spec.Resize own i t own (Some t)
 takes-resized own i t lt = record {
   means = λ x fits worked outs h. (h.0, resized-takes worked outs i t lt h.1);
+  fits = inl tt;
   types = λ ins pulled. pulled;
   sizes = tt;
   ends = λ i n. n;

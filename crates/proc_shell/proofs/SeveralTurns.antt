@@ -1,5 +1,5 @@
 -- A prepare that works at once what it pulled is two prepares and a work between them.
-use Rattle.proc_shell.proofs.Imports.{AreAsKept, AreMoved, Bool, BoxPicture, Continues, CountsRows, FollowsKept, HasSpecPorts, Held, IsKernelOf, IsRunning, IsSound, IsWorkOf, Keeps, KernelState, Kind, List, LoadedShell, Option, PassesOn, Picture, PreparesLawfully, Pushes, ReaderView, Ready, RowCount, ShellPrepares, ShellWorks, Some, Spec, Status, StaysFit, Table, Takes, Turns, Unworked, WorksHeld, [], all_port_flags, and_parts, ap, arith, changed-by-both, common_steps, follows-noted, goes-on, growth_in, held_made, held_option, held_unworked, in_count, is_wanted, lists-pulled, lists-pushed, loaded_seen, ltb-true, nat_lt, out_count, position-still, refl, rows-both, rows_pulled, shell_state, source_of, subst, sym, true, with_pulled, with_pushed, with_view, work_of, ℕ, ◌&&◌, ◌<◌, ◌∙◌, ◌∷◌, ◌≡◌, ◌≤◌}
+use Rattle.proc_shell.proofs.Imports.{AreAsKept, AreMoved, Bool, BoxPicture, Continues, CountsRows, FollowsKept, HasReadEnough, HasSpecPorts, Held, IsKernelOf, IsRunning, IsSound, IsWorkOf, Keeps, KernelState, Kind, List, LoadedShell, Option, PassesOn, Picture, PreparesLawfully, Pushes, ReaderView, Ready, RowCount, ShellPrepares, ShellWorks, Some, Spec, Status, StaysFit, Table, Takes, Turns, Unworked, WorksHeld, [], all_port_flags, and_parts, ap, ap₂, arith, changed-by-both, common_steps, enough-more, follows-noted, goes-on, growth_in, held_made, held_option, held_unworked, in_count, is_wanted, lists-pulled, lists-pushed, loaded_seen, ltb-true, nat_lt, out_count, position-still, pulled-both, refl, rows-both, rows_pulled, shell_state, source_of, subst, sym, true, with_pulled, with_pushed, with_view, work_of, ℕ, ◌&&◌, ◌++◌, ◌<◌, ◌∙◌, ◌∷◌, ◌≡◌, ◌≤◌}
 use Rattle.proc_shell.proofs.BoxLaws.{held-source, held-worked, limits-stay, passes-once, works-part}
 use Rattle.proc_shell.proofs.PortMoves.{kept-count, outs-count, same-ports}
 
@@ -47,6 +47,14 @@ module _ (k : Kind) (p a b q : LoadedShell) (n m l : RowCount) (v u w : Picture)
         (subst (Keeps Q (with_pulled u w (with_pulled v u ins)))
         (lists-pushed v u w sound first.changed last.changed outs)
         (y.keeps (fits-on fit) (with_pulled v u ins) (with_pushed v u outs) same));
+    stops = λ fit ins outs kept enough i.
+        let same = (works-part k d m a b work after).keeps refl (with_pulled v u ins)
+        (with_pushed v u outs) (x.keeps fit ins outs kept) in
+        pulled-both v u w sound first.changed last.changed i
+        ∙ ap₂ (λ a b. a ++ b) (x.stops fit ins outs kept enough i)
+        (y.stops (fits-on fit) (with_pulled v u ins) (with_pushed v u outs) same
+        (subst (λ z. HasReadEnough z (with_pulled v u ins)) (sym spec-stays)
+        (enough-more (Some p.kernel.spec) v u ins enough)) i);
     ends = λ some each. absurd (let e = (x.ends some each).answer in cc);
     pushes = y.pushes;
     room = y.room;

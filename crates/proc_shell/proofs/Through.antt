@@ -84,7 +84,7 @@ pub shelled-of : (s : Spec) (inputs : ℕ) → is_in_order s ≡ true → HasPor
 shelled-of s inputs i c = record {
   still = λ growth kept m n had h position.
       let x = c.ports growth (length kept.inputs) (length kept.outputs) had in
-      let y = c.ports growth m n h in (y.0 ∙ sym x.0, y.1 ∙ sym x.1);
+      let y = c.ports growth m n h in inl (y.0 ∙ sym x.0, y.1 ∙ sym x.1);
   enough_one = λ ins enough growth m n h. (c.ports growth m n h).1;
   lets_push = pushes-in-order s i (λ growth m n h. (c.ports growth m n h).1);
 }
@@ -97,7 +97,7 @@ pub record HasKeptPorts (s : Spec) : Type 0 where
 
 pub shelled-still : (s : Spec) → is_in_order s ≡ true → HasKeptPorts s → IsShelled s
 shelled-still s i c = record {
-  still = λ growth kept m n had h position. c.position kept m n position;
+  still = λ growth kept m n had h position. inl (c.position kept m n position);
   enough_one = λ ins enough. c.one;
   lets_push = pushes-in-order s i c.one;
 }
@@ -114,19 +114,31 @@ pub record IsMaker (s : Spec) (make : List Row → List Row) : Type 0 where
 
 pub takes-each : (s : Spec) (make : List Row → List Row) → IsMaker s make
     → (own : OwnState) (i : ℕ) (t : Table) (o : Option Table) → i ≡ 0
-    → (FitsInput (Some s) i t.types → rows_if_some o ≡ make t.rows) → ((ins : Lists)
+    → FitsInput (Some s) i t.types → rows_if_some o ≡ make t.rows → ((ins : Lists)
     → IsPulled ins t.types → IfSome o (λ (c : Table). MakesTypes (Some s) ins c.types)) → IfSome o
     (λ (c : Table). IsAtMost (most_rows (Some s)) (length c.rows)) → Takes s own i t own o
-takes-each s make k own i t o z rows types sizes = record {
+takes-each s make k own i t o z fit rows types sizes = record {
   means = λ x fits worked outs h. subst (λ n. Means x s own (with_chunk n t worked) outs
       (rows_if_some o)) (sym z)
       (k.into x own (with_chunk 0 t worked) outs (rows_if_some o)
       (ap (λ l. l ++ rows_if_some o)
       (sym (append-nil (chunk_rows (outs 0))) ∙ k.from x own worked outs [] h)
-      ∙ ap (λ l. make (chunk_rows (worked 0)) ++ l) (rows fits)
+      ∙ ap (λ l. make (chunk_rows (worked 0)) ++ l) rows
       ∙ sym (k.both (chunk_rows (worked 0)) t.rows) ∙ ap make (sym (rows-here t worked))));
+  fits = inl fit;
   types = types;
   sizes = sizes;
+  ends = λ i n. n;
+}
+
+-- a chunk that doesn't fit is dropped
+pub drops-misfit : (s : Spec) (own : OwnState) (i : ℕ) (t : Table)
+    → (FitsInput (Some s) i t.types → ⊥) → Takes s own i t own None
+drops-misfit s own i t misfit = record {
+  means = λ x fits. absurd (misfit fits);
+  fits = inr (record { misfit = misfit; same = refl; none = refl });
+  types = λ ins pulled. tt;
+  sizes = tt;
   ends = λ i n. n;
 }
 

@@ -1,5 +1,5 @@
 -- What each turn of a shell moves.
-use Rattle.proc_shell.proofs.Imports.{AllOutputsFinished, AreCounts, AreOpen, Bool, Flags, IsWantedFull, KernelState, Leaves, MayMake, Moves, Nothing, OwnState, Picture, PullsOne, Some, Spec, Table, TurnsInput, Unworked, after_pull, ap, ap₂, arith, by-place, cases_lt, changed-by-both, changed-by-one, common_steps, emptied, false, get_or-eq_default, get_or_default, holds_data, in_count, inl, inr, input_at, is_ended, is_out_finished, no_flags, none-pulled, not-true, or_parts, out_count, output_at, over_flags, all_port_flags, pull-turns, pull_call, refl, subst, taken_out, true, ℕ, ◌<◌, ◌∙◌, ◌≡◌}
+use Rattle.proc_shell.proofs.Imports.{AllOutputsFinished, AreCounts, AreOpen, Bool, Flags, IsWantedFull, IsWanting, KernelState, Leaves, MayMake, Moves, Nothing, OwnState, Picture, PullsOne, Some, Spec, Table, TurnsInput, Unworked, after_pull, ap, ap₂, arith, by-place, cases_lt, changed-by-both, changed-by-one, common_steps, emptied, false, get_or-eq_default, get_or_default, holds_data, in_count, inl, inr, input_at, is_ended, is_out_finished, no_flags, none-pulled, not-true, or_parts, out_count, output_at, over_flags, all_port_flags, pull-turns, pull_call, refl, subst, taken_out, true, ℕ, ◌<◌, ◌∙◌, ◌≡◌}
 use Rattle.proc_api.specs.declared.status.Status.TheVariants as status
 use Rattle.proc_shell.proofs.PortMoves.{kept-count, never-true}
 
@@ -38,9 +38,10 @@ room-unfinished v may some all = grind (arith, common_steps, never-true)
 
 -- a wanted input has data, and its chunk is pulled
 pub moves-pull : (x : KernelState) (v w : Picture) (wants : ℕ → Bool) (i : ℕ) (c : Table)
-    → MayMake v → IsWantedFull wants v i → (input_at v i).chunk ≡ Some c → w ≡ after_pull v i
+    → IsWanting (Some x.spec) x.own.read → MayMake v → IsWantedFull wants v i
+    → (input_at v i).chunk ≡ Some c → w ≡ after_pull v i
     → Moves x Nothing (Unworked i c) v w status.Ready
-moves-pull x v w wants i c r full at e =
+moves-pull x v w wants i c wanting r full at e =
     let t : TurnsInput v i (emptied (input_at v i)) w =
     rw e (pull-turns v i full.in_range full.holds) in
     let changed = changed-by-one v w (pull_call i) e in
@@ -52,7 +53,8 @@ moves-pull x v w wants i c r full at e =
     let closed : (j : ℕ) → (input_at w j).flags.fin_in ≡ (input_at v j).flags.fin_in = λ j.
     by-place (λ n. (input_at w n).flags.fin_in ≡ (input_at v n).flags.fin_in) i j
     (ap (λ y. y.flags.fin_in) t.here) (λ ne. ap (λ y. y.flags.fin_in) (t.others j ne)) in
-    let pulls : PullsOne Nothing (Unworked i c) v w = record {
+    let pulls : PullsOne x Nothing (Unworked i c) v w = record {
+      wanting = wanting;
       input = i;
       chunk = c;
       in_range = full.in_range;

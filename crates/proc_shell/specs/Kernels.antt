@@ -1,7 +1,7 @@
 -- What the code of a kind promises, over plain data: its own state, a chunk, and the rows that it
 -- makes.
 use Rattle.std.specs.Prelude.{◌++◌, ◌<◌, ◌==◌, ◌∷◌, ◌≡◌, ◌≢◌, ◌⊎◌}
-use Rattle.proc_shell.specs.Prelude.{AreCounts, ArePortsOf, BadPlace, Bool, ColumnType, FileSeen, Files, FitsInput, GrowthForm, HasMade, HasNotedEnd, HasReadEnough, IfSome, IsAtMost, IsBadFile, IsPulled, IsSourceKind, IsWanting, Kind, List, Lists, MakesTypes, MayExpand, None, NotesEnd, Offer, Option, OwnState, PartSpec, Picture, PortFlags, Row, Some, Spec, StandStill, Table, WorkFault, WorkState, [], chunk_rows, cond, false, idle_own, idle_work, in_count, input_at, is_in_finished, length, most_rows, no_lists, out_count, true, ℕ, Reading, IsReadOut, spec_growth}
+use Rattle.proc_shell.specs.Prelude.{AreCounts, AreOpen, ArePortsOf, BadPlace, Bool, ColumnType, FileSeen, Files, FitsInput, GrowthForm, HasMade, HasNotedEnd, HasReadEnough, IfSome, IsAtMost, IsBadFile, IsPulled, IsSourceKind, IsWanting, Kind, List, Lists, MakesTypes, MayExpand, None, NotesEnd, Offer, Option, OwnState, PartSpec, Picture, PortFlags, Row, Some, Spec, StandStill, Table, WorkFault, WorkState, [], chunk_rows, cond, false, idle_own, idle_work, in_count, input_at, is_in_finished, length, most_rows, no_lists, out_count, true, ℕ, Reading, IsReadOut, spec_growth}
 use Rattle.query_model.specs.declared.processor_spec.Kind.TheVariants as kind
 use Rattle.query_model.specs.declared.processor_spec.Spec.TheVariants as spec
 use Rattle.proc_api.specs.declared.status.WorkFault.TheVariants as fault
@@ -211,11 +211,19 @@ pub record Offers (wants : ℕ → Bool) (s : Spec) (v : Picture) (old new : Own
 abbrev pub NotesNoEnd : Spec → (old new : OwnState) → Type 0
 NotesNoEnd s old new = (i : ℕ) → NotesEnd (Some s) new i → NotesEnd (Some s) old i
 
+-- a chunk that doesn't fit leaves what is made and gathered as it was
+pub record Drops (s : Spec) (old : OwnState) (i : ℕ) (t : Table) (new : OwnState)
+    (o : Option Table) : Type 0 where
+  pub misfit : FitsInput (Some s) i t.types → ⊥
+  pub same : new ≡ old
+  pub none : o ≡ None
+
 -- a chunk of input i is worked
 pub record Takes (s : Spec) (old : OwnState) (i : ℕ) (t : Table) (new : OwnState)
     (o : Option Table) : Type 0 where
   pub means : (x : Reading) → FitsInput (Some s) i t.types → (worked outs : Lists)
       → Means x s old worked outs [] → Means x s new (with_chunk i t worked) outs (rows_if_some o)
+  pub fits : FitsInput (Some s) i t.types ⊎ Drops s old i t new o
   pub types : (ins : Lists) → IsPulled ins t.types
       → IfSome o (λ (c : Table). MakesTypes (Some s) ins c.types)
   pub sizes : IfSome o (λ (c : Table). IsAtMost (most_rows (Some s)) (length c.rows))
@@ -241,12 +249,18 @@ LetsPush s =
     → Means x s own worked outs (chunk_rows (pushed ++ rest))
     → Means x s own worked more (chunk_rows rest)
 
+-- as many ports as these, or others where each of these is open and no end of an input is noted
+abbrev pub HasSamePorts : Spec → PortFlags → (inputs outputs : ℕ) → Type 0
+HasSamePorts s kept inputs outputs =
+    ((inputs ≡ length kept.inputs) × (outputs ≡ length kept.outputs))
+    ⊎ (AreOpen kept × ((own : OwnState) (i : ℕ) → NotesEnd (Some s) own i → ⊥))
+
 -- what a shell must know of the ports of a kind, and that what waits may leave by an output
 pub record IsShelled (s : Spec) : Type 0 where
   pub still : (growth : Option GrowthForm) (kept : PortFlags) (inputs outputs : ℕ)
       → ArePortsOf (Some s) growth (length kept.inputs) (length kept.outputs)
       → ArePortsOf (Some s) growth inputs outputs → StandStill (Some s) (Some kept) inputs outputs
-      → (inputs ≡ length kept.inputs) × (outputs ≡ length kept.outputs)
+      → HasSamePorts s kept inputs outputs
   pub enough_one : (ins : Lists) → HasReadEnough (Some s) ins → (growth : Option GrowthForm)
       (inputs outputs : ℕ) → ArePortsOf (Some s) growth inputs outputs → outputs ≡ 1
   pub lets_push : LetsPush s

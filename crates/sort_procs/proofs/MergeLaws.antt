@@ -1,7 +1,7 @@
 -- The clauses of a merge's kernel.
 use Rattle.std.proofs.lemmas.Grind.{common_steps}
 use Rattle.std.proofs.Common.{◌≡◌, Bool, Option, ℕ, suc, ◌+◌, ◌<◌, ◌≤◌, ◌&&◌, not, true, false, List, [], ◌∷◌, ◌++◌, length, take, drop, get_or, set, append_assoc, Some, None, refl, sym, ap, ap₂, subst, ◌∙◌, arith, inl, inr}
-use Rattle.sort_procs.proofs.Imports.{AreBlank, AreHeadsOf, AreMerged, Begins, Head, InputHead, AreRanked, GivesRanks, get_or_past, AreUsedFrom, IsFirstHead, IsFirstBut, IsMoved, length-take, IsRanked, IsRowRun, AllByRecursion, IsBeforeNone, every-weaker, drop-drop, take-append-drop, next_rows, row_at, rows-ordered, get_or-set_other, Leaves, Makes, Merges, MergesSome, NotesEnds, Offer, OfferComes, Offers, Picture, Row, SortKey, SortSpec, Table, Takes, WantsMore, and_parts, append-nil, at, cases_lt, chunk_rows, cond_both, drop-cons, drop_all, first_row, get_or-set_same, head_at, head_of, head_rows, heads_of, in_count, is_lt, is_open_at, is_ready, is_ready_head, is_used, le-leb, le-ltb, leb-false, leb-true, length-append, length-drop, length-map, length-set, list_all, list_all-map, lt-leb, lt-ltb, map-set, merging_own, no_head, not-true, or_left, row_cmp, with_chunk, written_back}
+use Rattle.sort_procs.proofs.Imports.{AreBlank, AreHeadsOf, AreMerged, Begins, FitsOrder, Head, InputHead, AreRanked, GivesRanks, get_or_past, AreUsedFrom, IsFirstHead, IsFirstBut, IsMoved, length-take, IsRanked, IsRowRun, AllByRecursion, IsBeforeNone, every-weaker, drop-drop, take-append-drop, next_rows, row_at, rows-ordered, get_or-set_other, Leaves, Makes, Merges, MergesSome, NotesEnds, Offer, OfferComes, Offers, Picture, Row, SortKey, SortSpec, Table, Takes, WantsMore, and_parts, append-nil, at, cases_lt, chunk_rows, cond_both, drop-cons, drop_all, first_row, get_or-set_same, head_at, head_of, head_rows, heads_of, in_count, is_lt, is_open_at, is_ready, is_ready_head, is_used, le-leb, le-ltb, leb-false, leb-true, length-append, length-drop, length-map, length-set, list_all, list_all-map, lt-leb, lt-ltb, map-set, merging_own, no_head, not-true, or_left, row_cmp, with_chunk, written_back}
 use Rattle.query_model.specs.declared.processor_spec.Spec.TheVariants as spec
 use Rattle.sort_procs.proofs.HeadLaws.{all-pass, each-passes, head-at, read-at}
 use Rattle.sort_procs.proofs.MergingLaws.{IsLeastBut, merged-none, merged-noted, merged-run, merged-taken, same-heads, set-each}
@@ -113,9 +113,9 @@ module _ (order : SortSpec) (heads : List Head) (i : ℕ) (t : Table) (are : Are
   here : i < length heads
   here = let c = are.count in omega (arith, lt, c)
 
-  pub takes : is_used (at heads i) ≡ true → (at heads i).ended ≡ false
+  pub takes : FitsOrder order t.types → is_used (at heads i) ≡ true → (at heads i).ended ≡ false
       → Takes (spec.MergeSorted order) (merging_own heads) i t (merging_own (set heads i new)) None
-  takes used open' = record {
+  takes fit used open' = record {
     means = λ x fits worked outs h. (
       refl,
       subst (λ l. AreMerged order.keys l (with_chunk i t worked) (chunk_rows (outs 0) ++ []))
@@ -125,6 +125,7 @@ module _ (order : SortSpec) (heads : List Head) (i : ℕ) (t : Table) (are : Are
           (head-at heads i ∙ ap₂ (λ r b. record { rows = r; ended = b })
           (used-none (at heads i) used) open') h.1),
     );
+    fits = inl fit;
     types = λ ins pulled. tt;
     sizes = tt;
     ends = grind (arith, head-at, set-ends, here);

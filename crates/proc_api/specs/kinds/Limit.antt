@@ -22,7 +22,7 @@ limit_contract span = record {
       AreLimited span (chunk_rows (worked 0)) (chunk_rows (outs 0) ++ wait) own.read;
   traits = record chunk_by_chunk {
     enough = λ ins. enough span ≤ length (chunk_rows (ins 0));
-    wanting = λ read. read < enough span;
+    wanting = λ read. read < min (enough span) last_read;
     reads_whole = ⊥;
   };
 }

@@ -1,6 +1,7 @@
--- A resize passes on what it is given, by outputs that have room. It takes every chunk.
+-- A resize passes on what it is given, by outputs that have room. It takes every chunk, and may get
+-- more ports as long as it has closed and finished none.
 use Rattle.std.specs.Prelude.{◌++◌, ◌<◌, ◌≡◌}
-use Rattle.proc_api.specs.KindContract.{AreAsKept, IsPermutation, IsPulled, KindContract, List, Lists, None, Row, [], all_rows, chunk_by_chunk, chunk_rows, moved_work, ℕ, ⊤}
+use Rattle.proc_api.specs.KindContract.{IsPermutation, IsPulled, KindContract, List, Lists, MayGrowOpen, None, Row, [], all_rows, chunk_by_chunk, chunk_rows, moved_work, ℕ, ⊤}
 
 -- nothing is in any list but the first
 abbrev pub IsFirstAlone : Lists → Type 0
@@ -21,5 +22,5 @@ resize_contract = record {
   most_rows = None;
   idle = λ w. w ≡ moved_work w;
   made = λ x own worked outs wait. (own.unmade ≡ []) × AreResized worked outs wait;
-  traits = record chunk_by_chunk { still = AreAsKept };
+  traits = record chunk_by_chunk { still = MayGrowOpen };
 }

@@ -6,6 +6,7 @@ use Rattle.sort_procs.proofs.merge.MergingKernel.take.Goals as goal
 pub returns-clause-takes : goal.returns-clause-takes
 returns-clause-takes c = λ wanted.
     let s = c.args.self.now in
-    takes s.order s.heads.items c.args.input c.args.chunk s.are c.requires wanted
+    takes s.order s.heads.items c.args.input c.args.chunk s.are c.requires
+    (c.fits_order.ensures.0 c.if-not-fits_order.false) wanted
     (ap (λ (h : Head). h.ended) (sym (get_or_read s.heads.items c.args.input c.index.result.now
     (omega (arith, c.requires, s.are.count)) c.index.ensures no_head)) ∙ c.if-index.false)
