@@ -7,9 +7,10 @@ ghost use Rattle.proc_api.specs.Reserves.{AreReserves, AreStarting, IsAdded, beh
 use crate::causes::{
     AddCause, BuildCause, BuildRefusal, NotAdded, NotBuilt, NotReserved, ReserveCause,
 };
-use crate::edges::{has_small_ports, is_gapless, is_port_taken, is_ranked};
+use crate::edges::{has_small_ports, is_ranked};
 use crate::reserves::{behind_wires, reserved_edges, with_reserve, with_unborn};
 use chunk_data::List;
+use graph_checks::{is_gapless, is_port_taken};
 use port_word::{Reserve, Wire};
 use proc_api::Processor;
 use std::alloc::Global;

@@ -10,5 +10,4 @@ mod reserves;
 pub use causes::{
     AddCause, BuildCause, BuildRefusal, NotAdded, NotBuilt, NotReserved, ReserveCause,
 };
-pub use edges::{is_gapless, is_port_taken};
 pub use graph::{Graph, GraphBuilder};

@@ -1,49 +1,9 @@
 -- A growth without a flaw, carried out, keeps the state of the run.
 use Rattle.pipeline_exec.proofs.Words.{AreAllBorn, AreBirths, AreFree, AsksToGrow, Avoids, Birth, Blank, Bool, BoxPicture, CarriesOut, CellPicture, ChangesCell, EdgeState, ExecutorPicture, GivesBox, GrewBox, GrewCell, GrowNode, GrowsTo, GrowthForm, HoldsGraph, Input, IsBorn, IsBornCell, IsFlawless, IsFresh, IsGraph, IsNewNode, IsTrue, IsUnderWay, Kind, Left, List, Loads, MarkHolds, MayCarryOut, Me, New, NewEdge, NodeStatus, None, Option, Output, Picture, Reserve, Running, Some, Spec, Status, Who, Wire, [], after_grow, and_parts, ap, append-nil, arith, blank_place, blanks_of, both_ways, box-of, boxes_of, busy-born, cases_Bool, cases_eq, cell_at, cond, count_by, drop, drop-cons, edge_at, end_node, eq-eqb, false, false_from_ne_true, form_at, form_kind, forms_of, get_or, get_or-replicate, get_or-set_other, get_or-set_same, get_or_append_left, graph-grown, growing_runs_on, grown-counts, grown_kinds, growth_flaw, growths_of, has_gap, has_wrong_end, inl, input_count, inr, is_blank_of, is_me, is_named, is_some, is_unborn_state, keeps-gives, keeps-itself, kept_growths, kind_of, left_at, length, length-append, length-map, length-replicate, length-set, list_any, list_any_at, ltb-false, ltb-true, map, ne_eqb, new_edge, new_wire, new_wires, no_wire, none-of, not, not-blank, not-false, or_parts, output_count, place-of, place_at, places_for, rank_at, refl, remove, replicate, reserve_of, same_kind, set_ranks, set_ranks-length, spec_form, stays-itself, subst, suc, sum_by-cons, sym, take, true, unborn_of, wire_at, wired_by, without_blank, zero, ℕ, ◌++◌, ◌+◌, ◌-◌, ◌<◌, ◌==◌, ◌∙◌, ◌∷◌, ◌≡◌, ◌≢◌, ◌≤◌, ◌⊎◌}
 use Rattle.std.proofs.Math.Seq.{get_or-append_right}
-use Rattle.std.specs.Prelude.{find}
-use Rattle.query_model.specs.declared.processor_spec.Spec.TheVariants as spec
+use Rattle.graph_checks.proofs.FlawLaws.{places-length}
 use Rattle.exec_laws.specs.declared.edges.DueCall.TheVariants as call
 use Rattle.exec_laws.specs.declared.edges.NodeStatus.TheVariants as node
-
--- ---- kinds and places
-
-form-kind : (s : Spec) → form_kind (spec_form s) ≡ kind_of s
-form-kind (spec.Filter c) = refl
-form-kind (spec.Expression items) = refl
-form-kind s = refl
-
-pub kinds-are : (nodes : List GrowNode) → map form_kind (forms_of nodes) ≡ grown_kinds nodes
-kinds-are [] = refl
-kinds-are (x ∷ nodes) = rw (form-kind x.spec) (ap (λ l. kind_of x.spec ∷ l) (kinds-are nodes))
-
--- the new nodes of a kind
-pub kinds-count : (k : Kind) (nodes : List GrowNode)
-    → count_by (λ (j : Kind). same_kind j k) (grown_kinds nodes)
-    ≡ count_by (λ (x : GrowNode). same_kind (kind_of x.spec) k) nodes
-kinds-count k [] = refl
-kinds-count k (x ∷ nodes) =
-    sum_by-cons (λ (j : Kind). cond (same_kind j k) 1 0) (kind_of x.spec) (grown_kinds nodes)
-    ∙ ap (λ n. cond (same_kind (kind_of x.spec) k) 1 0 + n) (kinds-count k nodes)
-    ∙ sym (sum_by-cons (λ (y : GrowNode). cond (same_kind (kind_of y.spec) k) 1 0) x nodes)
-
--- the first blank of the kind is found and taken out
-pub blank-found : (k : Kind) (blanks : List Blank) (i past : ℕ) (b : Blank) → i < length blanks
-    → b ≡ get_or blanks i b → is_blank_of k b ≡ true → (blank_place k (drop i blanks) past ≡ b.node)
-    × (take i blanks ++ without_blank k (drop i blanks) ≡ remove blanks i)
-blank-found k blanks i past b lt is h = rw (drop-cons blanks i b lt, ← is, h) (refl, refl)
-
--- the search goes on past a kind that fails
-pub find-on : (test : Kind → Bool) (ks : List Kind) (i : ℕ) (d : Kind) → i < length ks
-    → test (get_or ks i d) ≡ false → find test (drop i ks) ≡ find test (drop (i + 1) ks)
-find-on test ks i d lt h =
-    let next : i + 1 ≡ suc i = omega arith in
-    rw (next, drop-cons ks i d lt, h) refl
-
-pub places-length : (ks : List Kind) (blanks : List Blank) (past : ℕ)
-    → length (places_for ks blanks past) ≡ length ks
-places-length [] blanks past = refl
-places-length (k ∷ ks) blanks past = ap suc (places-length ks (without_blank k blanks) (suc past))
 
 pub gives-loaded : (p q : BoxPicture) → p.spec ≡ None → (s : Spec) → Loads p s q → GivesBox p q
 gives-loaded p q none s h = record {

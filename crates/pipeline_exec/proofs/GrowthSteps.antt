@@ -1,6 +1,7 @@
 -- A growth that the box of a node gave: it is checked, and carried out.
 use Rattle.pipeline_exec.proofs.Words.{AreFree, Blank, Bool, CarriesOut, CellPicture, ChangesCell, ExecutorPicture, GrewBox, GrowNode, GrowsAndSpoils, GrowsTo, Growth, GrowthFlaw, GrowthForm, IsUnderWay, Left, List, MayCarryOut, None, Option, Reserve, Some, Wire, [], ap, ap₂, arith, cell_at, cond, false, form_kind, forms_of, get_or, get_or_default, grown_kinds, growth_flaw, growth_form, is_unborn_state, left_at, length, length-append, length-map, map, new_wires, places_for, ranks_of, reserve_of, set_ranks, spec_form, subst, suc, sym, true, unborn_of, zero, ℕ, ◌++◌, ◌+◌, ◌<◌, ◌∙◌, ◌∷◌, ◌≡◌, ◌≤◌}
-use Rattle.pipeline_exec.proofs.GrowthLaws.{grown-board, kinds-are, may-carry}
+use Rattle.graph_checks.proofs.BlankLaws.{kinds-are}
+use Rattle.pipeline_exec.proofs.GrowthLaws.{grown-board, may-carry}
 use Rattle.pipeline_exec.proofs.GrowthRuns.{spoiled}
 use Rattle.exec_laws.specs.declared.edges.DueCall.TheVariants as call
 use Rattle.exec_laws.specs.declared.edges.NodeStatus.TheVariants as node

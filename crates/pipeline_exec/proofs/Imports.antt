@@ -3,8 +3,6 @@ pub use Rattle.pipeline_exec.proofs.BirthSteps.{bears-still, carries-out, gives-
 pub use Rattle.pipeline_exec.proofs.Calling.{are-called, called-both, called-itself, calls-held, calls-stay, each-front, each-swapped, may-again, may-be-called, may-each}
 pub use Rattle.pipeline_exec.proofs.Creating.{found-some, has-wire, more-ports, state-started}
 pub use Rattle.pipeline_exec.proofs.GrowthEnds.{bad-end, failed-end, settled-end}
-pub use Rattle.pipeline_exec.proofs.GrowthFlaws.{gap, lacks, large-port, out-of-order, taken}
-pub use Rattle.pipeline_exec.proofs.GrowthLaws.{blank-found, find-on, kinds-count}
 pub use Rattle.pipeline_exec.proofs.GrowthRuns.{ends-after, failed-grow, gives-after, grew-gives, grows-on, stays-grows}
 pub use Rattle.pipeline_exec.proofs.GrowthSteps.{bad-growth, few-blanks, grew, may}
 pub use Rattle.pipeline_exec.proofs.Lists.{cell-changed, cell-read, cell-told, cells-below, cells-within, changed-if-err, changed-if-ok}

@@ -5,7 +5,6 @@ pub mod Calling
 pub mod Creating
 pub mod RunEnds
 pub mod GrowthLaws
-pub mod GrowthFlaws
 pub mod BirthSteps
 pub mod GrowthRuns
 pub mod GrowthSteps

@@ -15,9 +15,10 @@ pub use Rattle.exec_laws.proofs.Imports.{Action, Acts, ActsCell, All, All-from_g
 pub use Rattle.exec_laws.specs.Births.{left_of}
 pub use Rattle.exec_laws.specs.Growths.{blank_place, without_blank}
 pub use Rattle.exec_laws.specs.declared.edges.StuckNode.{StuckNode}
+pub use Rattle.graph_checks.specs.Flaws.{grown_kinds, ranks_of}
 pub use Rattle.pipeline_exec.specs.Cells.{AreCalled, AreFirstEdges, AreFirstPorts, AreNewEdges, AreNewFrom, AreNewRoundPorts, Carries, CarriesOne, ChangesCell, Each, ExecutorPicture, FailsAt, FillsRoundCells, HasFault, HasWire, IsCalled, IsCarrying, IsCleared, IsFaultless, IsOnBoard, IsTurning, IsUnderWay, MayBeCalled, MovesEdge, SeesPort, ShowsPorts, StaysAll, TakesAction, TellsNode, board_of, cell_picture, cells_of, first_round_mark, is_port_end, port_count, port_on}
 pub use Rattle.pipeline_exec.specs.Ends.{EndsBadly, EndsSettled, ExecEndHolds, IsFaultEnd}
-pub use Rattle.pipeline_exec.specs.Growing.{AreFree, ArePortsAt, Avoids, Bears, BearsSome, Bore, CarriesOut, FailedBox, GivesBoxes, GrewBox, GrowsAndFails, GrowsAndSpoils, GrowsByBirths, GrowsTo, IsBornCell, IsFreeBlank, MayCarryOut, RoundEndHolds, Widened, are_left, begun, forms_of, grown_kinds, is_unborn_state, left_at, place_at, ranks_of, unborn_of}
+pub use Rattle.pipeline_exec.specs.Growing.{AreFree, ArePortsAt, Avoids, Bears, BearsSome, Bore, CarriesOut, FailedBox, GivesBoxes, GrewBox, GrowsAndFails, GrowsAndSpoils, GrowsByBirths, GrowsTo, IsBornCell, IsFreeBlank, MayCarryOut, RoundEndHolds, Widened, are_left, begun, forms_of, is_unborn_state, left_at, place_at, unborn_of}
 pub use Rattle.pipeline_exec.specs.Prelude.{Blank, Cell, DueCall, EdgeState, ExecEnd, ExecutorState, Grew, GrowNode, GrowthFlaw, Inputs, IsDone, Kind, Loads, NodeFault, NodeMark, NodeStatus, Outputs, Reserve, RoundEnd, RoundPorts, SameBox, Side, Spec, is_reserved, kind_of, spec_form}
 pub use Rattle.node_ends.specs.Resting.{has_room, is_wanting}
 pub use Rattle.proc_api.proofs.Imports.{All-permutation, Any-from_list_any, remove}

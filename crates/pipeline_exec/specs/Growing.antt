@@ -9,12 +9,6 @@ use Rattle.pipeline_exec.specs.declared.births.RoundEnd.TheVariants as round
 
 -- ---- new nodes
 
-abbrev pub grown_kinds : List GrowNode → List Kind
-grown_kinds nodes = map (λ (x : GrowNode). kind_of x.spec) nodes
-
-abbrev pub ranks_of : List GrowNode → List ℕ
-ranks_of nodes = map (λ (x : GrowNode). x.rank) nodes
-
 abbrev pub forms_of : List GrowNode → List SpecForm
 forms_of nodes = map (λ (x : GrowNode). spec_form x.spec) nodes
 

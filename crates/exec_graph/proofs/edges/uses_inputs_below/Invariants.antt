@@ -1,6 +1,0 @@
-use Rattle.std.proofs.Common.{◌≡◌, true}
-use Rattle.proc_api.specs.Graphs.{all_below, has_input}
-use Rattle.exec_graph.proofs.edges.uses_inputs_below.Given as goal
-
-abbrev pub invariant-loop-i : goal.invariant-loop-i
-invariant-loop-i l = all_below (has_input l.wires l.node) l.i ≡ true

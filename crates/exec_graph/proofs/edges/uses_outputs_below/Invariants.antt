@@ -1,6 +1,0 @@
-use Rattle.std.proofs.Common.{◌≡◌, true}
-use Rattle.proc_api.specs.Graphs.{all_below, has_output}
-use Rattle.exec_graph.proofs.edges.uses_outputs_below.Given as goal
-
-abbrev pub invariant-loop-o : goal.invariant-loop-o
-invariant-loop-o l = all_below (has_output l.wires l.node) l.o ≡ true

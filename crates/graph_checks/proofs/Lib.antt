@@ -1,0 +1,5 @@
+pub mod Imports
+pub mod BlankLaws
+pub mod SamePorts
+pub mod FlawLaws
+pub mod OwnPorts

@@ -1,5 +1,0 @@
-use Rattle.pipeline_exec.proofs.Imports.{false, has_gap, list_any, take, ◌≡◌}
-use Rattle.pipeline_exec.proofs.growth.any_place_gap.Given as goal
-
-abbrev pub invariant-loop-place : goal.invariant-loop-place
-invariant-loop-place l = list_any (has_gap l.wires) (take l.place-index l.places) ≡ false
