@@ -1,6 +1,6 @@
 -- How a graph grows, as the executor's code does it.
 use Rattle.chunk_data.specs.Places.{AreOnce}
-use Rattle.pipeline_exec.specs.Prelude.{AreAllBorn, AreBirths, AreEdgesOf, AsksToGrow, Birth, Blank, CellPicture, GivesBox, Grew, GrowNode, GrowthFlaw, GrowthForm, HoldsGraph, IsBorn, IsNewNode, KeepsFault, Kind, Left, Loads, NodeStatus, Reserve, RoundEnd, RoundPorts, Spec, SpecForm, StaysBox, Wire, WorkFault, after_grow, boxes_of, cell_at, form_at, grown_ranks, grown_wires, growth_flaw, holds_node, in_count, input_count, kind_of, new_edge, out_count, output_count, reserve_of, spec_form, wired_by}
+use Rattle.pipeline_exec.specs.Prelude.{AreAllBorn, AreBirths, AreEdgesOf, AsksToGrow, Birth, Blank, CellPicture, GivesBox, Grew, GrowNode, GrowthFlaw, GrowthForm, HoldsGraph, IsBorn, IsNewNode, KeepsFault, Left, Loads, NodeStatus, Reserve, RoundEnd, RoundPorts, Spec, SpecForm, StaysBox, Wire, WorkFault, after_grow, boxes_of, cell_at, form_at, grown_ranks, grown_wires, growth_flaw, holds_node, in_count, input_count, new_edge, out_count, output_count, reserve_of, spec_form, wired_by}
 use Rattle.pipeline_exec.specs.Cells.{AreNewRoundPorts, ChangesCell, ExecutorPicture, FailsAt, IsUnderWay}
 use Rattle.pipeline_exec.specs.Ends.{Begun}
 use Rattle.std.specs.Prelude.{Bool, List, None, Some, [], cond, false, length, map, replicate, slice_index_or, slice_set, suc, true, zero, ℕ, ◌++◌, ◌+◌, ◌-◌, ◌<◌, ◌∷◌, ◌≡◌, ◌≢◌, ◌≤◌}
