@@ -1,0 +1,126 @@
+-- A node that waits for its birth may begin once it was loaded and born.
+use Rattle.node_births.proofs.Imports.{BoxHolds, BoxPicture, FollowsKept, Identity, IsFresh, IsNewborn, IsSeatOf, GainsPort, IsWaiting, Lists, Loads, MakesStep, NodeCell, NodePorts, NodeSeat, None, Port, PortsHold, WaitsOn, Wire, SameLists, SeatState, Spec, StandStill, [], after_grow, ap, arith, cell_ports, in_count, length-replicate, new_input, no_flags, out_count, replicate, replicate-append-replicate, follows-new, is_over_stage, is_unborn_stage, length, new_picture, no_lists, nothing, ports_picture, position-still, refl, rules, stage-made, state-made, still-holds, still-lists, still-quiet, subst, sym, view, ℕ, ◌++◌, ◌-◌, ◌∙◌, ◌≡◌, ◌≤◌}
+use Rattle.node_births.proofs.MorePorts.{more-inputs, more-outputs}
+use Rattle.core_laws.specs.declared.types.Step.TheVariants as step
+use Rattle.exec_laws.specs.declared.edges.NodeStatus.TheVariants as node
+
+-- a fresh box keeps its contract where nothing passed
+pub fresh-box : (p : BoxPicture) (ins outs : ℕ) → IsFresh p → BoxHolds ins outs p no_lists no_lists
+fresh-box p ins outs fresh =
+    let still : StandStill p.spec p.notes.view ins outs =
+    rw fresh.notes (position-still p.spec None ins outs tt) in
+    search (rules, fresh.notes, fresh.keeps, still)
+
+module _ {P : Type 0} (seen : P → BoxPicture) (t : Identity) (old : NodeCell P)
+    (h : IsWaiting seen t old) (q : P) (s : Spec) (loads : Loads (seen old.processor) s (seen q))
+    (a b : NodeSeat) (i : MakesStep t old.seat a step.TokenIn None nothing)
+    (m : MakesStep t a b step.Birth None nothing) where
+  abbrev ins : ℕ
+  ins = length old.ports.inputs.items
+
+  abbrev outs : ℕ
+  outs = length old.ports.outputs.items
+
+  taken : PortsHold (ports_picture old.ports a)
+  taken = still-holds old.ports old.ports.updated old.seat a h.ports
+      (still-quiet h.ports h.kept.seat i refl (λ _. refl) refl)
+
+  ports : PortsHold (ports_picture old.ports b)
+  ports = still-holds old.ports old.ports.updated a b taken
+      (still-quiet taken i.seat m refl (λ _. refl) refl)
+
+  first : SameLists (cell_ports old) (ports_picture old.ports a)
+  first = still-lists old.ports old.ports.updated old.seat a h.ports
+      (still-quiet h.ports h.kept.seat i refl (λ _. refl) refl)
+
+  second : SameLists (ports_picture old.ports a) (ports_picture old.ports b)
+  second = still-lists old.ports old.ports.updated a b taken
+      (still-quiet taken i.seat m refl (λ _. refl) refl)
+
+  tokens : (view b).state.tokens ≡ 0
+  tokens = let x = ap (λ (z : SeatState). z.tokens) (state-made h.kept.seat i) in
+      let y = ap (λ (z : SeatState). z.tokens) (state-made i.seat m) in let z = h.kept.tokens in
+      omega (arith, x, y, z)
+
+  pub newborn : IsNewborn seen t s old (record {
+    processor = q;
+    mark = record { state = node.Due; last = None };
+    ports = old.ports;
+    seat = b;
+  })
+  newborn = record {
+    loads = loads;
+    begins = record {
+      cell = record {
+        seat = m.seat;
+        node = record {
+          ports = ports;
+          box = subst (λ (l : Lists × Lists). BoxHolds ins outs (seen q) l.0 l.1) (λ j. (
+            (λ k. sym (second.pulled k ∙ (first.pulled k ∙ h.pulled k)) j),
+            (λ k. sym (second.pushed k ∙ (first.pushed k ∙ h.pushed k)) j),
+          )) (fresh-box (seen q) ins outs loads.fresh);
+          kept = λ _. subst (FollowsKept (seen q)) (sym h.view)
+              (follows-new (seen q) ins outs loads.fresh.notes);
+          mark = tt;
+        };
+      };
+      quiet = h.kept.quiet;
+      tokens = tokens;
+      owes = ap (λ (z : SeatState). z.owes) (state-made i.seat m)
+          ∙ (ap (λ (z : SeatState). z.owes) (state-made h.kept.seat i) ∙ h.kept.owes);
+      free = ap (λ (z : SeatState). z.held) (state-made i.seat m)
+          ∙ (ap (λ (z : SeatState). z.held) (state-made h.kept.seat i) ∙ h.kept.free);
+      born = ap is_unborn_stage (stage-made i.seat m);
+      going = ap is_over_stage (stage-made i.seat m);
+      mark = λ over. let z : node.Due ≡ node.Over = over in cc;
+    };
+    ports = refl;
+    mark = refl;
+  }
+
+-- ---- a port more
+
+-- so many more, up to n
+up-to : {A : Type 0} (m n : ℕ) (x : A) → m ≤ n
+    → replicate m x ++ replicate (n - length (replicate m x)) x ≡ replicate n x
+up-to m n x le = replicate-append-replicate m (n - length (replicate m x)) x
+    ∙ ap (λ k. replicate k x) (let len = length-replicate m x in omega (arith, le, len))
+
+more-picture : (i o m n : ℕ) → i ≤ m → o ≤ n → after_grow (new_picture i o) m n ≡ new_picture m n
+unfolding in_count out_count
+more-picture i o m n le_in le_out = λ j. record {
+  inputs = up-to i m new_input le_in j;
+  outputs = up-to o n no_flags le_out j;
+  actions = [];
+}
+
+pub waits-more : {P : Type 0} (seen : P → BoxPicture) (t : Identity) (p : Port) (e : ℕ) (w : Wire)
+    (old : NodeCell P) (ports : NodePorts) (seat : NodeSeat) → IsWaiting seen t old
+    → IsSeatOf t seat → GainsPort p e w (cell_ports old) (ports_picture ports seat)
+    → WaitsOn seen t p e w old (record old { ports = ports; seat = seat })
+waits-more seen t p e w old ports seat h at g = record {
+  waits = record {
+    kept = record {
+      seat = at;
+      blank = h.kept.blank;
+      quiet = g.may.quiet;
+      unborn = ap is_unborn_stage g.stage ∙ h.kept.unborn;
+      tokens = g.tokens ∙ h.kept.tokens;
+      owes = g.owes ∙ h.kept.owes;
+      free = g.held ∙ h.kept.free;
+    };
+    ports = g.may.holds;
+    view = g.view ∙ (ap (λ v. after_grow v (length ports.inputs.items)
+        (length ports.outputs.items)) h.view
+        ∙ more-picture (length old.ports.inputs.items) (length old.ports.outputs.items)
+        (length ports.inputs.items) (length ports.outputs.items)
+        (let more = more-inputs p old.ports.inputs.items e in let is = ap length g.inputs in
+        omega (arith, more, is))
+        (let more = more-outputs p old.ports.outputs.items e in let is = ap length g.outputs in
+        omega (arith, more, is)));
+    pulled = λ i. g.lists.pulled i ∙ h.pulled i;
+    pushed = λ o. g.lists.pushed o ∙ h.pushed o;
+  };
+  gains = g;
+  mark = refl;
+}

@@ -1,0 +1,21 @@
+use Rattle.std.specs.Prelude.{IfErr, IfOk}
+use Rattle.graph_checks.specs.Flaws.{flaw_over}
+use Rattle.exec_laws.specs.declared.growth.Blank.{Blank}
+use Rattle.node_births.proofs.Imports.{List, None, Some, Wire, growth_form, subst, ◌∙◌, ◌≡◌}
+use Rattle.node_births.proofs.reserve.check_own_growth.Goals as goal
+
+pub returns-clause-flaw : goal.returns-clause-flaw
+returns-clause-flaw c =
+    subst (λ (x : List Wire × List Blank). IfOk c.check_growth_at.result (λ r. IfErr r (λ f.
+    flaw_over c.args.reserve.now.rank c.args.reserve.now.nodes x.0
+    (record { blanks = x.1; edges = c.args.reserve.now.edges }) c.args.n
+    (growth_form c.args.growth.now) ≡ Some f)))
+    (λ j. (c.in_ok-wires.ensures j, (c.in_ok-blanks.ensures ∙ c.as_slice.ensures.value) j)) c.check_growth_at.ensures.flaw
+
+pub returns-clause-none : goal.returns-clause-none
+returns-clause-none c =
+    subst (λ (x : List Wire × List Blank). IfOk c.check_growth_at.result (λ r. IfOk r (λ g.
+    flaw_over c.args.reserve.now.rank c.args.reserve.now.nodes x.0
+    (record { blanks = x.1; edges = c.args.reserve.now.edges }) c.args.n
+    (growth_form c.args.growth.now) ≡ None)))
+    (λ j. (c.in_ok-wires.ensures j, (c.in_ok-blanks.ensures ∙ c.as_slice.ensures.value) j)) c.check_growth_at.ensures.none

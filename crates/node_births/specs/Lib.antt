@@ -1,0 +1,4 @@
+pub mod MorePorts
+pub mod Waiting
+pub mod Widened
+pub mod Left
