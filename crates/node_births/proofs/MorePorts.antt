@@ -382,7 +382,8 @@ module _ (p : Port) (e : ℕ) (w : Wire) (c d : PortsPicture) (h : PortsHold c)
   need i lt = elim (own-split (Input i) lt) [
     | inl old ↦ ap (λ l. get_or l i false) m.needed
         ∙ (old-need p c.needed i (let n = h.needed_len in omega (arith, old, n))
-        ∙ (h.needed i old ∙ sym (ap (λ (x : InputPort). x.flags.needed) (seen-still (Input i) old))))
+        ∙ (h.needed i old
+        ∙ sym (ap (λ (x : InputPort). x.flags.needed) (seen-still (Input i) old))))
     | inr new ↦ ap (λ l. get_or l i false) m.needed
         ∙ (new-need p c.needed i (past-need p new next)
         ∙ sym (ap (λ (x : InputPort). x.flags.needed)
@@ -465,7 +466,8 @@ module _ (p : Port) (e : ℕ) (w : Wire) (c d : PortsPicture) (h : PortsHold c)
       | inr new ↦ quiet-passed d q own quiet-too (own-sight q own)
           ∙ (ap (λ f. (end_of_view d.node f).chunks) (ap (edge_of d) new ∙ edge-new)
           ∙ (ap (λ (z : EdgeEnd). z.chunks) l.end
-          ∙ sym (subst (λ r. passed c r ≡ []) (sym new) (past-passed c h quiet p (past-side p next)))))
+          ∙ sym (subst (λ r. passed c r ≡ []) (sym new)
+          (past-passed c h quiet p (past-side p next)))))
     ]
     | inr past ↦ past-passed d more-holds quiet-too q (past-at q past)
         ∙ sym (past-passed c h quiet q (past-was q past))

@@ -10,7 +10,8 @@ returns-clause-flaw c =
     flaw_over c.args.reserve.now.rank c.args.reserve.now.nodes x.0
     (record { blanks = x.1; edges = c.args.reserve.now.edges }) c.args.n
     (growth_form c.args.growth.now) ≡ Some f)))
-    (λ j. (c.in_ok-wires.ensures j, (c.in_ok-blanks.ensures ∙ c.as_slice.ensures.value) j)) c.check_growth_at.ensures.flaw
+    (λ j. (c.in_ok-wires.ensures j, (c.in_ok-blanks.ensures ∙ c.as_slice.ensures.value) j))
+    c.check_growth_at.ensures.flaw
 
 pub returns-clause-none : goal.returns-clause-none
 returns-clause-none c =
@@ -18,4 +19,5 @@ returns-clause-none c =
     flaw_over c.args.reserve.now.rank c.args.reserve.now.nodes x.0
     (record { blanks = x.1; edges = c.args.reserve.now.edges }) c.args.n
     (growth_form c.args.growth.now) ≡ None)))
-    (λ j. (c.in_ok-wires.ensures j, (c.in_ok-blanks.ensures ∙ c.as_slice.ensures.value) j)) c.check_growth_at.ensures.none
+    (λ j. (c.in_ok-wires.ensures j, (c.in_ok-blanks.ensures ∙ c.as_slice.ensures.value) j))
+    c.check_growth_at.ensures.none
