@@ -10,7 +10,7 @@ trap 'rm -rf "$copy"' EXIT
 cp "$here/../HANDLES" "$here/../crates.txt" "$copy"
 cp -r "$here/../crates" "$copy"
 echo 'chain_bench may_wait=4: chunk_data query_model port_word core_laws exec_core atomic_table' \
-    'exec_table proc_api exec_laws node_ports task_queue node_cells crossbeam_queue' \
+    'exec_table proc_api exec_laws graph_checks node_ports task_queue node_cells crossbeam_queue' \
     'crossbeam_utils exec_graph pipeline_exec node_workers node_ends expr_eval proc_shell' \
     flow_procs >>"$copy/crates.txt"
 crate=$copy/crates/chain_bench
