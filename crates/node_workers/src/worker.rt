@@ -27,13 +27,12 @@ const MOST_WORKERS: usize = 16;
 const LOOKS_BEFORE_NAPS: u32 = 512;
 
 /// How many such visits it makes between two naps. A reader that has nothing is looked at as often
-/// in a third of a millisecond or less.
+/// in less than a millisecond.
 const LOOKS_BETWEEN_NAPS: u32 = 256;
 
 /// A nap takes a microsecond for so many looks that came before it. So a file of 200 MB that is
-/// read alone is read by less than a hundredth slower, and a reader that has nothing for a second
-/// costs less than a tenth of a processor. A million looks, after which it is given up, take some
-/// 12 seconds.
+/// read alone is read by less than a hundredth slower. A million looks, after which a reader is
+/// given up, take some 15 seconds, and a fifth of that of a processor.
 const LOOKS_A_MICROSECOND: u32 = 10;
 
 /// What all workers share: the table, the numbers of nodes that are due, and the cells.
