@@ -34,16 +34,21 @@ pub record IsGivenBack (q : TaskQueue) (n : ℕ) (old new : WorkerTasks) : Type 
   pub kept : KeepsNumber n old new
   pub full : WasAt (capacity_of q) old.pass
 
+-- n was put into the queue, or came back from a full one, and nothing that was kept is lost
+pub record IsOffered (q : TaskQueue) (n : ℕ) (old new : WorkerTasks) : Type 0 where
+  pub taken : taken_through new.pass ≡ taken_through old.pass
+  pub went : IsPut n old new ⊎ IsGivenBack q n old new
+
 -- nothing was kept, and n stays with the worker, which goes on with it
 pub record IsGoingOn (n : ℕ) (old new : WorkerTasks) : Type 0 where
   pub bare : KeepsNone old
+  pub taken : taken_through new.pass ≡ taken_through old.pass
   pub put : put_by new.pass ≡ put_by old.pass
   pub kept : KeepsNumber n old new
 
--- n was put into the queue or is kept, and nothing that was kept is lost
-pub record IsOffered (q : TaskQueue) (n : ℕ) (old new : WorkerTasks) : Type 0 where
-  pub taken : taken_through new.pass ≡ taken_through old.pass
-  pub went : IsPut n old new ⊎ (IsGivenBack q n old new ⊎ IsGoingOn n old new)
+-- n was offered, or stays with a worker that kept none
+abbrev pub IsOfferedNext : TaskQueue → ℕ → WorkerTasks → WorkerTasks → Type 0
+IsOfferedNext q n old new = IsOffered q n old new ⊎ IsGoingOn n old new
 
 -- n was kept, and is in the queue now
 pub record IsShared (n : ℕ) (old new : WorkerTasks) : Type 0 where
@@ -64,7 +69,7 @@ pub record SharesNumber (old new : WorkerTasks) : Type 0 where
 pub data AreOffered (q : TaskQueue) (old : WorkerTasks) : List ℕ → WorkerTasks → Type 0 where
   offered_none : AreOffered q old [] old
   offered_more : {ns : List ℕ} {n : ℕ} {mid new : WorkerTasks} → AreOffered q old ns mid
-      → IsOffered q n mid new → AreOffered q old (ns ++ n ∷ []) new
+      → IsOfferedNext q n mid new → AreOffered q old (ns ++ n ∷ []) new
   offered_shared : {ns : List ℕ} {mid new : WorkerTasks} → AreOffered q old ns mid
       → SharesNumber mid new → AreOffered q old ns new
 

@@ -24,7 +24,7 @@ pub struct WorkerTasks {
 }
 
 impl WorkerTasks {
-    ghost use Rattle.task_queue.specs.Tasks.{GivesTask, IsOffered, KeepsNone, KeepsNumber, LetsGo, SharesNumber, keeps};
+    ghost use Rattle.task_queue.specs.Tasks.{GivesTask, IsOffered, IsOfferedNext, KeepsNone, KeepsNumber, LetsGo, SharesNumber, keeps};
 
     /// A worker's pass, with no number that is kept.
     pub fn new(pass: QueuePass) -> WorkerTasks
@@ -80,7 +80,7 @@ impl WorkerTasks {
         requires pass { IsPassOf queue.now self.old.pass }
         requires few { n < 256 }
         ensures pass { IsPassOf queue.now self.new.pass }
-        ensures offered { IsOffered queue.now n self.old self.new }
+        ensures offered { IsOfferedNext queue.now n self.old self.new }
     {
         if self.any {
             self.offer(rt, queue, n);
