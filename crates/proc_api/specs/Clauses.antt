@@ -255,6 +255,14 @@ MaySchedule (Some (Prepared Status.Async)) = ⊤
 MaySchedule (Some (Scheduled wake.Later)) = ⊤
 MaySchedule _ = ⊥
 
+-- it is to work, and hasn't since it said so
+abbrev pub IsToWork : BoxPicture → Type 0
+IsToWork p = MayWork p.notes.answer × (p.notes.acted ≡ false)
+
+-- it is to say by what the graph grows, and hasn't since it asked
+abbrev pub IsToGrow : BoxPicture → Type 0
+IsToGrow p = (p.notes.answer ≡ Some (Prepared Status.ExpandPipeline)) × (p.notes.acted ≡ false)
+
 -- a call that leaves the kept view, answer and growth
 pub record SameNotes (p q : BoxPicture) : Type 0 where
   pub view : q.notes.view ≡ p.notes.view

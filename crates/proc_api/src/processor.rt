@@ -1,5 +1,5 @@
 ghost use Rattle.std.specs.Prelude.{◌≡◌, ◌≢◌, ◌⊎◌};
-ghost use Rattle.proc_api.specs.Names.{BoxPicture, ChangedByCalls, CountsOn, Expands, Faults, FollowsKept, HasNoReader, IfErr, IfOk, IsLoadRefused, IsRunning, IsSourceKind, IsTrue, KeepsLimits, KeepsUnlessOut, List, Loads, MaySchedule, MayWork, None, NotesView, OnOk, Option, Prepared, PreparesLawfully, PulledOn, SameBox, SameCounts, SamePulled, Schedules, Some, Unloads, Works, false, handed_out_by, row_of, ℕ};
+ghost use Rattle.proc_api.specs.Names.{BoxPicture, ChangedByCalls, CountsOn, Expands, Faults, FollowsKept, HasNoReader, IfErr, IfOk, IsLoadRefused, IsRunning, IsSourceKind, IsToGrow, IsToWork, IsTrue, KeepsLimits, KeepsUnlessOut, List, Loads, MaySchedule, None, NotesView, OnOk, Option, PreparesLawfully, PulledOn, SameBox, SameCounts, SamePulled, Schedules, Unloads, Works, false, handed_out_by, row_of, ℕ};
 
 use crate::growth::Growth;
 use crate::status::{LoadRefusal, Status, Wake, WorkFault};
@@ -47,8 +47,7 @@ pub trait Processor: Drop + Send {
     /// Works on what was pulled, or makes rows that can be pushed; once an answer.
     fn work(&mut self) -> Result<(), WorkFault>
         requires running { IsRunning (seen self.old) }
-        requires ready { MayWork (seen self.old).notes.answer }
-        requires once { (seen self.old).notes.acted ≡ false }
+        requires ready { IsToWork (seen self.old) }
         ensures same { SameBox (seen self.old) (seen self.new) }
         ensures counts { CountsOn (seen self.old) (seen self.new) }
         ensures pulled { SamePulled (seen self.old) (seen self.new) }
@@ -72,8 +71,7 @@ pub trait Processor: Drop + Send {
     /// Says by what the graph is to grow; once an answer.
     fn expand(&mut self) -> Result<Growth, WorkFault>
         requires running { IsRunning (seen self.old) }
-        requires expanding { (seen self.old).notes.answer ≡ Some (Prepared Status.ExpandPipeline) }
-        requires once { (seen self.old).notes.acted ≡ false }
+        requires expanding { IsToGrow (seen self.old) }
         ensures same { SameBox (seen self.old) (seen self.new) }
         ensures counts { CountsOn (seen self.old) (seen self.new) }
         ensures pulled { SamePulled (seen self.old) (seen self.new) }
