@@ -1,7 +1,7 @@
 ghost use Rattle.std.specs.Prelude.{◌≡◌, ◌<◌, length};
 ghost use Rattle.csv_procs.specs.Names.{BlockGiven, CountIncreased, IfOk, IfSome, IsAfter, IsSome, IsWholeFile, OnErr, OnOk, ReadGives, ReaderState, Some, lists_in, told_bytes};
 
-use crate::file_fetch::{Fetched, fetch};
+use crate::file_fetch::{BLOCK, Fetched, fetch_by};
 use crate::file_kernel::FileKernel;
 use crate::file_state::FileState;
 use crate::listed_growth::listed_growth;
@@ -61,6 +61,7 @@ impl<R: FileReader> Feeds for R {
 // Makes one read of the file in which the reader stands, and notes what it gave.
 fn fetch_more<F: Feeds>(
     reader: &mut F,
+    buffer: &mut [u8; BLOCK],
     held: &mut Bytes,
     notes: &mut BoxNotes,
 ) -> Result<Fetched, WorkFault>
@@ -70,7 +71,7 @@ fn fetch_more<F: Feeds>(
         notes.old notes.new result }
 {
     let had = held.len();
-    match fetch(reader, held, MOST_BYTES as u64) {
+    match fetch_by(reader, buffer, held, MOST_BYTES as u64) {
         Ok(Fetched::More) => {
             notes.note_given(held.len() - had);
             Ok(Fetched::More)
@@ -139,7 +140,7 @@ impl<S: Sourced> FileKernel for Sourcing<S> {
                     Err(WorkFault::Read)
                 }
             },
-            FileState::Fetching(held) => match fetch_more(reader, held, notes) {
+            FileState::Fetching(held) => match fetch_more(reader, &mut self.buffer, held, notes) {
                 Ok(Fetched::Whole) => {
                     let bytes = replace(held, Bytes::new(alloc));
                     match whole_file(alloc, S::lists(), bytes, self.part.header) {

@@ -7,7 +7,7 @@ use outside_io::{Failed, Got};
 use proc_api::WorkFault;
 
 /// The most bytes that one read asks for.
-const BLOCK: usize = 65536;
+pub(crate) const BLOCK: usize = 65536;
 
 /// What one read gave.
 #[derive(Clone, Copy, PartialEq, Eq)]
@@ -36,7 +36,22 @@ pub fn fetch<F: Feeds>(reader: &mut F, held: &mut Bytes, limit: u64) -> Result<F
         result }
 {
     let mut buffer = [0; BLOCK];
-    match reader.read_block(&mut buffer) {
+    fetch_by(reader, &mut buffer, held, limit)
+}
+
+/// The same by a buffer that serves for many reads.
+pub(crate) fn fetch_by<F: Feeds>(
+    reader: &mut F,
+    buffer: &mut [u8; BLOCK],
+    held: &mut Bytes,
+    limit: u64,
+) -> Result<Fetched, WorkFault>
+    requires { IsSome (F.reader reader.old).position }
+    ensures after { IsAfter (F.reader reader.old) (F.reader reader.new) }
+    ensures gives { FetchGives limit (F.reader reader.old) (F.reader reader.new) held.old held.new
+        result }
+{
+    match reader.read_block(buffer) {
         Ok(Got::Bytes(n)) => {
             let block = &buffer[..n];
             if passes_limit(held.len(), block.len(), limit) {

@@ -1,6 +1,7 @@
 ghost use Rattle.std.specs.Prelude.{◌<◌, ◌^◌, ◌↔◌, ◌≡◌};
 ghost use Rattle.csv_procs.specs.Names.{Bool, HasFitLeft, IfSome, IsNextOfSource, IsSpecOf, IsTrue, csv_kind, inputs_in, length, lists_in, max, open_in};
 
+use crate::file_fetch::BLOCK;
 use crate::file_state::FileState;
 use chunk_data::{Chunk, ColumnType, Memory};
 use csv_rows::RowsFault;
@@ -54,6 +55,8 @@ impl Sourced for PartLists {
 pub struct Sourcing<S: Sourced> {
     pub(crate) part: PartSpec,
     pub(crate) state: FileState,
+    /// Each block is read into it.
+    pub(crate) buffer: Box<[u8; BLOCK]>,
     source: PhantomData<S>,
     ghost few: { length part.types < 2 ^ 32 },
     ghost left: { HasFitLeft part.types state },
@@ -139,17 +142,21 @@ impl<S: Sourced> Kernel for Sourcing<S> {
     }
 
     // A column's number has 32 bits.
-    fn begin(_alloc: Global, spec: Spec) -> Result<Sourcing<S>, Memory> {
+    fn begin(alloc: Global, spec: Spec) -> Result<Sourcing<S>, Memory> {
         match part_of(spec) {
             Some(part) => {
                 if part.types.len() as u64 > u32::MAX as u64 {
                     return Err(Memory);
                 }
-                Ok(Sourcing {
-                    part,
-                    state: FileState::Shut,
-                    source: PhantomData,
-                })
+                match Box::new(alloc, [0; BLOCK]) {
+                    Ok(buffer) => Ok(Sourcing {
+                        part,
+                        state: FileState::Shut,
+                        buffer,
+                        source: PhantomData,
+                    }),
+                    Err(_) => Err(Memory),
+                }
             }
             // The shell hands it no other kind's.
             None => Err(Memory),

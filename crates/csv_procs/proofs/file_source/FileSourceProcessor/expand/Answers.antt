@@ -29,7 +29,7 @@ returns-clause-ok g c = elim c.match-grow.branch [
         x.old_is,
       ) (by-paths (R.files r) (R.position r) (R.faults r) (R.pendings r) c.self.inside.pulled
       (F.part_of l.kernel) l.held l.notes w.in-Ok.growth
-      (rw (← c.self.view_is, c.in-Some.is) at c.requires.expanding) running.faultless x.before
+      (rw (← c.self.view_is, c.in-Some.is) at c.requires.expanding.0) running.faultless x.before
       x.valid x.ungrown x.names_path x.is (tied-now (R.files r) (R.position r) true
       (F.part_of l.kernel) (Paths x.before) l.held l.notes
       (rw (c.in-Some.is, shows l.kernel, x.is_list, x.old_is) at c.self.invariant)
