@@ -102,7 +102,8 @@ grown-counts n count places wires edges other h =
     me-counts n count places (λ e. e.from.who) (λ w. w.from) (λ e. refl) other edges named.0 in
     (ins ∙ ap (λ k. input_count wires n + k) to, outs ∙ ap (λ k. output_count wires n + k) from)
 
-no-outputs : (paths : List (List ℕ)) (k : ℕ)
+-- a list's new parts are all its inputs
+pub no-outputs : (paths : List (List ℕ)) (k : ℕ)
     → count_by (λ (e : NewEdge). is_me e.from.who) (listed_edges k paths) ≡ 0
 no-outputs [] k = refl
 no-outputs (path ∷ paths) k = grind (arith, count_by-cons, no-outputs paths (k + 1))
@@ -113,13 +114,13 @@ pub record GrewList (s : Option Spec) (files : Option Files) (g : GrowthForm) : 
   pub is : s ≡ Some (spec.List list)
   pub growth : IsListGrowth list files g
 
-grew-list : (s : Option Spec) (files : Option Files) (g : GrowthForm) → MayGrow s files (Some g)
+pub grew-list : (s : Option Spec) (files : Option Files) (g : GrowthForm) → MayGrow s files (Some g)
     → GrewList s files g
 grew-list (Some (spec.List list)) files g h = record { list = list; is = refl; growth = h }
 grew-list s files g h = absurd h
 
 -- where the grown ports are those of the spec and growth, the ones before were those of the spec
-ports-before : (s : Option Spec) (files : Option Files) (g : GrowthForm) (i o : ℕ)
+pub ports-before : (s : Option Spec) (files : Option Files) (g : GrowthForm) (i o : ℕ)
     → MayGrow s files (Some g)
     → ArePortsOf s (Some g) (i + grown_inputs (Some g))
     (o + count_by (λ (e : NewEdge). is_me e.from.who) g.edges) → ArePortsOf s None i o

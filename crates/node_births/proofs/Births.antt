@@ -1,18 +1,11 @@
 -- A node that waits for its birth may begin once it was loaded and born.
-use Rattle.node_births.proofs.Imports.{BoxHolds, BoxPicture, FollowsKept, Identity, IsFresh, IsNewborn, IsSeatOf, GainsPort, IsWaiting, Lists, Loads, MakesStep, NodeCell, NodePorts, NodeSeat, None, Port, PortsHold, WaitsOn, Wire, SameLists, SeatState, Spec, StandStill, [], after_grow, ap, arith, cell_ports, in_count, length-replicate, new_input, no_flags, out_count, replicate, replicate-append-replicate, follows-new, is_over_stage, is_unborn_stage, length, new_picture, no_lists, nothing, ports_picture, position-still, refl, rules, stage-made, state-made, still-holds, still-lists, still-quiet, subst, sym, view, ℕ, ◌++◌, ◌-◌, ◌∙◌, ◌≡◌, ◌≤◌}
-use Rattle.node_births.proofs.MorePorts.{more-inputs, more-outputs}
+use Rattle.node_births.proofs.Imports.{AwaitsBirth, BoxHolds, BoxPicture, FollowsKept, Identity, IsNewborn, IsSeatOf, Gains, Lists, Loads, MakesStep, NodeCell, NodePorts, NodeSeat, None, Picture, PortsHold, SameLists, SeatState, Spec, [], after_grow, ap, arith, cell_ports, in_count, length-replicate, new_input, no_flags, out_count, replicate, replicate-append-replicate, follows-new, is_over_stage, is_unborn_stage, length, new_picture, nothing, ports_picture, refl, stage-made, state-made, still-holds, still-lists, still-quiet, subst, sym, view, ℕ, ◌++◌, ◌-◌, ◌∙◌, ◌≡◌, ◌≤◌}
 use Rattle.core_laws.specs.declared.types.Step.TheVariants as step
+use Rattle.node_cells.proofs.NewCells.{fresh-box}
 use Rattle.exec_laws.specs.declared.edges.NodeStatus.TheVariants as node
 
--- a fresh box keeps its contract where nothing passed
-pub fresh-box : (p : BoxPicture) (ins outs : ℕ) → IsFresh p → BoxHolds ins outs p no_lists no_lists
-fresh-box p ins outs fresh =
-    let still : StandStill p.spec p.notes.view ins outs =
-    rw fresh.notes (position-still p.spec None ins outs tt) in
-    search (rules, fresh.notes, fresh.keeps, still)
-
 module _ {P : Type 0} (seen : P → BoxPicture) (t : Identity) (old : NodeCell P)
-    (h : IsWaiting seen t old) (q : P) (s : Spec) (loads : Loads (seen old.processor) s (seen q))
+    (h : AwaitsBirth seen t old) (q : P) (s : Spec) (loads : Loads (seen old.processor) s (seen q))
     (a b : NodeSeat) (i : MakesStep t old.seat a step.TokenIn None nothing)
     (m : MakesStep t a b step.Birth None nothing) where
   abbrev ins : ℕ
@@ -23,7 +16,7 @@ module _ {P : Type 0} (seen : P → BoxPicture) (t : Identity) (old : NodeCell P
 
   taken : PortsHold (ports_picture old.ports a)
   taken = still-holds old.ports old.ports.updated old.seat a h.ports
-      (still-quiet h.ports h.kept.seat i refl (λ _. refl) refl)
+      (still-quiet h.ports h.seat i refl (λ _. refl) refl)
 
   ports : PortsHold (ports_picture old.ports b)
   ports = still-holds old.ports old.ports.updated a b taken
@@ -31,15 +24,15 @@ module _ {P : Type 0} (seen : P → BoxPicture) (t : Identity) (old : NodeCell P
 
   first : SameLists (cell_ports old) (ports_picture old.ports a)
   first = still-lists old.ports old.ports.updated old.seat a h.ports
-      (still-quiet h.ports h.kept.seat i refl (λ _. refl) refl)
+      (still-quiet h.ports h.seat i refl (λ _. refl) refl)
 
   second : SameLists (ports_picture old.ports a) (ports_picture old.ports b)
   second = still-lists old.ports old.ports.updated a b taken
       (still-quiet taken i.seat m refl (λ _. refl) refl)
 
   tokens : (view b).state.tokens ≡ 0
-  tokens = let x = ap (λ (z : SeatState). z.tokens) (state-made h.kept.seat i) in
-      let y = ap (λ (z : SeatState). z.tokens) (state-made i.seat m) in let z = h.kept.tokens in
+  tokens = let x = ap (λ (z : SeatState). z.tokens) (state-made h.seat i) in
+      let y = ap (λ (z : SeatState). z.tokens) (state-made i.seat m) in let z = h.tokens in
       omega (arith, x, y, z)
 
   pub newborn : IsNewborn seen t s old (record {
@@ -59,17 +52,17 @@ module _ {P : Type 0} (seen : P → BoxPicture) (t : Identity) (old : NodeCell P
             (λ k. sym (second.pulled k ∙ (first.pulled k ∙ h.pulled k)) j),
             (λ k. sym (second.pushed k ∙ (first.pushed k ∙ h.pushed k)) j),
           )) (fresh-box (seen q) ins outs loads.fresh);
-          kept = λ _. subst (FollowsKept (seen q)) (sym h.view)
+          kept = λ _. subst (FollowsKept (seen q)) (sym h.new_view)
               (follows-new (seen q) ins outs loads.fresh.notes);
           mark = tt;
         };
       };
-      quiet = h.kept.quiet;
+      quiet = ap (λ (v : Picture). v.actions) h.new_view;
       tokens = tokens;
       owes = ap (λ (z : SeatState). z.owes) (state-made i.seat m)
-          ∙ (ap (λ (z : SeatState). z.owes) (state-made h.kept.seat i) ∙ h.kept.owes);
+          ∙ (ap (λ (z : SeatState). z.owes) (state-made h.seat i) ∙ h.owes);
       free = ap (λ (z : SeatState). z.held) (state-made i.seat m)
-          ∙ (ap (λ (z : SeatState). z.held) (state-made h.kept.seat i) ∙ h.kept.free);
+          ∙ (ap (λ (z : SeatState). z.held) (state-made h.seat i) ∙ h.free);
       born = ap is_unborn_stage (stage-made i.seat m);
       going = ap is_over_stage (stage-made i.seat m);
       mark = λ over. let z : node.Due ≡ node.Over = over in cc;
@@ -78,7 +71,7 @@ module _ {P : Type 0} (seen : P → BoxPicture) (t : Identity) (old : NodeCell P
     mark = refl;
   }
 
--- ---- a port more
+-- ---- more ports
 
 -- so many more, up to n
 up-to : {A : Type 0} (m n : ℕ) (x : A) → m ≤ n
@@ -94,33 +87,22 @@ more-picture i o m n le_in le_out = λ j. record {
   actions = [];
 }
 
-pub waits-more : {P : Type 0} (seen : P → BoxPicture) (t : Identity) (p : Port) (e : ℕ) (w : Wire)
-    (old : NodeCell P) (ports : NodePorts) (seat : NodeSeat) → IsWaiting seen t old
-    → IsSeatOf t seat → GainsPort p e w (cell_ports old) (ports_picture ports seat)
-    → WaitsOn seen t p e w old (record old { ports = ports; seat = seat })
-waits-more seen t p e w old ports seat h at g = record {
-  waits = record {
-    kept = record {
-      seat = at;
-      blank = h.kept.blank;
-      quiet = g.may.quiet;
-      unborn = ap is_unborn_stage g.stage ∙ h.kept.unborn;
-      tokens = g.tokens ∙ h.kept.tokens;
-      owes = g.owes ∙ h.kept.owes;
-      free = g.held ∙ h.kept.free;
-    };
-    ports = g.may.holds;
-    view = g.view ∙ (ap (λ v. after_grow v (length ports.inputs.items)
-        (length ports.outputs.items)) h.view
-        ∙ more-picture (length old.ports.inputs.items) (length old.ports.outputs.items)
-        (length ports.inputs.items) (length ports.outputs.items)
-        (let more = more-inputs p old.ports.inputs.items e in let is = ap length g.inputs in
-        omega (arith, more, is))
-        (let more = more-outputs p old.ports.outputs.items e in let is = ap length g.outputs in
-        omega (arith, more, is)));
-    pulled = λ i. g.lists.pulled i ∙ h.pulled i;
-    pushed = λ o. g.lists.pushed o ∙ h.pushed o;
-  };
-  gains = g;
-  mark = refl;
+pub awaits-more : {P : Type 0} (seen : P → BoxPicture) (t : Identity) (old : NodeCell P)
+    (ports : NodePorts) (seat : NodeSeat) → AwaitsBirth seen t old → IsSeatOf t seat
+    → Gains (cell_ports old) (ports_picture ports seat)
+    → AwaitsBirth seen t (record old { ports = ports; seat = seat })
+awaits-more seen t old ports seat h at g = record {
+  seat = at;
+  blank = h.blank;
+  ports = g.may.holds;
+  new_view = g.view ∙ (ap (λ v. after_grow v (length ports.inputs.items)
+      (length ports.outputs.items)) h.new_view
+      ∙ more-picture (length old.ports.inputs.items) (length old.ports.outputs.items)
+      (length ports.inputs.items) (length ports.outputs.items) g.inputs g.outputs);
+  pulled = λ i. g.lists.pulled i ∙ h.pulled i;
+  pushed = λ o. g.lists.pushed o ∙ h.pushed o;
+  unborn = ap is_unborn_stage g.stage ∙ h.unborn;
+  tokens = g.tokens ∙ h.tokens;
+  owes = g.owes ∙ h.owes;
+  free = g.held ∙ h.free;
 }

@@ -1,4 +1,4 @@
 pub mod MorePorts
-pub mod Waiting
+pub mod Newborn
 pub mod Widened
 pub mod Left

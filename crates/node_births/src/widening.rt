@@ -1,22 +1,21 @@
-//! A node grows: its processor says by what, and it gets its new ports.
-ghost use Rattle.std.specs.Prelude.{◌≡◌, IfErr, IfOk, OnOk, length, true};
-ghost use Rattle.core_laws.specs.declared.types.Step.TheVariants as step;
-ghost use Rattle.port_word.specs.declared.flags.Port.TheVariants.{Input, Output};
+//! A node gets the ports of a growth: an unborn one, and the one that grows, whose processor says
+//! by what.
+ghost use Rattle.std.specs.Prelude.{◌≡◌, IfErr, IfOk, OnOk};
 ghost use Rattle.proc_api.specs.Forms.{growth_form};
 ghost use Rattle.exec_laws.specs.Names.{StaysBox};
 ghost use Rattle.exec_laws.specs.declared.edges.DueCall.TheVariants.{Expand};
-ghost use Rattle.exec_table.specs.Ready.{ready};
-ghost use Rattle.exec_table.specs.Seats.{IsSeatOf, identity_of, view};
+ghost use Rattle.exec_table.specs.Seats.{IsSeatOf, identity_of, sizes_in};
 ghost use Rattle.node_cells.specs.Cells.{cell_ports};
 ghost use Rattle.node_cells.specs.Turns.{IsAtWork, IsStopped};
 ghost use Rattle.node_cells.specs.declared.stop_cause.StopCause.TheVariants.{Fault};
-ghost use Rattle.node_births.specs.MorePorts.{IsUnseen, MayGain};
-ghost use Rattle.node_births.specs.Widened.{IsGrowing, WidenedLaw, WidensOn};
+ghost use Rattle.node_births.specs.MorePorts.{AreReservedWires, MayGain};
+ghost use Rattle.node_births.specs.Widened.{GetsPorts, IsGrowing, WidenedLaw};
 
-use crate::more_ports::{add_input, add_output};
+use crate::more_ports::add_ports;
 use chunk_data::Memory;
-use exec_table::{ExecTable, Wire};
+use exec_table::ExecTable;
 use node_cells::NodeCell;
+use port_word::Wire;
 use proc_api::{Growth, Processor, WorkFault};
 
 /// The node's processor says by what the graph is to grow.
@@ -37,45 +36,33 @@ pub fn ask_growth<P: Processor>(
     }
 }
 
-/// The node that grows gets the edge at its next output, and sets the edge's wire. After an error
-/// its ports are nobody's.
-pub fn widen_output<P: Processor>(
+/// The node gets all its inputs, or all its outputs, among the wires of the edges from `first` on.
+/// It sets the wires at its outputs, and those at its inputs have been set. After an error its
+/// ports are nobody's: it comes for want of memory, or where an edge has another wire than this.
+pub fn get_ports<P: Processor>(
     table: &ExecTable,
     cell: &mut NodeCell<P>,
-    e: u32,
-    wire: Wire,
+    consumer: bool,
+    wires: &[Wire],
+    first: u32,
 ) -> Result<(), Memory>
     requires seat { IsSeatOf (identity_of table.now) cell.old.seat }
     requires may { MayGain (cell_ports cell.old) }
-    requires edge { IsUnseen e (view cell.old.seat) }
-    requires ready { ready (view cell.old.seat) (step.Wire e wire) ≡ true }
+    requires wires { AreReservedWires (sizes_in table.now) first wires.now }
     ensures seat { IsSeatOf (identity_of table.now) cell.new.seat }
     ensures processor { cell.new.processor ≡ cell.old.processor }
-    ensures ok { OnOk result (WidensOn P.seen (identity_of table.now)
-        (Output (length cell.old.ports.outputs.items)) e wire cell.old cell.new) }
+    ensures mark { cell.new.mark ≡ cell.old.mark }
+    ensures ok { OnOk result (GetsPorts P.seen (identity_of table.now) consumer first wires.now
+        cell.old cell.new) }
 {
-    match add_output(table, &mut cell.ports, &mut cell.seat, e, wire) {
-        Ok(()) => Ok(()),
-        Err(Memory) => Err(Memory),
-    }
-}
-
-/// The same at its next input, where the edge's producer has set this wire.
-pub fn widen_input<P: Processor>(
-    table: &ExecTable,
-    cell: &mut NodeCell<P>,
-    e: u32,
-    wire: Wire,
-) -> Result<(), Memory>
-    requires seat { IsSeatOf (identity_of table.now) cell.old.seat }
-    requires may { MayGain (cell_ports cell.old) }
-    requires edge { IsUnseen e (view cell.old.seat) }
-    ensures seat { IsSeatOf (identity_of table.now) cell.new.seat }
-    ensures processor { cell.new.processor ≡ cell.old.processor }
-    ensures ok { OnOk result (WidensOn P.seen (identity_of table.now)
-        (Input (length cell.old.ports.inputs.items)) e wire cell.old cell.new) }
-{
-    match add_input(table, &mut cell.ports, &mut cell.seat, e, wire) {
+    match add_ports(
+        table,
+        &mut cell.ports,
+        &mut cell.seat,
+        consumer,
+        wires,
+        first,
+    ) {
         Ok(()) => Ok(()),
         Err(Memory) => Err(Memory),
     }

@@ -12,4 +12,4 @@ pub mod QueueLaws
 pub mod VisitLaws
 mod SizeLaws
 mod NewPorts
-mod NewCells
+pub mod NewCells

@@ -1,10 +1,9 @@
 -- The cells of a new table: one of a fresh processor may begin, and one of a blank one is kept.
-use Rattle.node_cells.proofs.Imports.{BoxHolds, BoxPicture, Identity, Input, IsPort, List, Lists, MarkHolds, NodeCell, CellNodeHolds, NodeView, Output, Picture, Port, SeatState, Wire, [], ap, arith, cases_Bool, cell_ports, cond, eq-eqb, false, identity_of, inl, inr, input_count, is_over_stage, is_unborn_stage, length, length-map, output_count, refl, subst, sym, true, view, wire_at, ℕ, ◌++◌, ◌<◌, ◌∙◌, ◌≡◌, ◌⊎◌}
+use Rattle.node_cells.proofs.Imports.{BoxHolds, BoxPicture, Identity, Input, IsPort, List, Lists, MarkHolds, NodeCell, CellNodeHolds, NodeView, None, Output, Picture, Port, PortsHold, SeatState, Wire, [], ap, arith, cases_Bool, cell_ports, cond, eq-eqb, false, identity_of, inl, inr, input_count, is_over_stage, is_unborn_stage, length, length-map, output_count, pulled_by, pushed_by, refl, rules, subst, sym, true, view, wire_at, ℕ, ◌++◌, ◌<◌, ◌∙◌, ◌≡◌, ◌⊎◌}
 use Rattle.core_laws.specs.Start.{start_node}
 use Rattle.core_laws.specs.declared.types.Sizes.{Sizes}
-use Rattle.exec_laws.proofs.Starting.{new-node}
-use Rattle.exec_laws.specs.Names.{AreEdgesOf, new_mark}
-use Rattle.exec_laws.specs.Prelude.{IsBlank, IsFresh, Reserve, new_picture, no_box, no_lists}
+use Rattle.exec_laws.specs.Names.{AreEdgesOf}
+use Rattle.exec_laws.specs.Prelude.{IsBlank, IsFresh, Reserve, StandStill, new_picture, no_box, no_lists}
 use Rattle.exec_laws.specs.declared.edges.NodeMark.{NodeMark}
 use Rattle.exec_laws.specs.declared.edges.NodeStatus.TheVariants as node
 use Rattle.exec_table.specs.Made.{IsNewTable, IsOpen}
@@ -16,11 +15,11 @@ use Rattle.exec_table.specs.declared.rule.RootSeat.{RootSeat}
 use Rattle.exec_table.specs.declared.types.Stage.TheVariants.{Begun, Born, Unborn}
 use Rattle.node_cells.proofs.NewPorts.{new-edges, new-ports, new_ports_picture, nothing-pulled, nothing-pushed, state-start}
 use Rattle.node_cells.specs.NewCells.{AreNewCells, AreNewNodes, AreNewPorts, Fills, HasEdgeAt, HasPortsWithinLimits, IsGraphOfNodes, IsNewCell, IsNewNodeAt, ends_at, first_mark, node_of_cell, sizes_of}
-use Rattle.node_cells.specs.Stored.{IsKept, StoredAs}
+use Rattle.node_cells.specs.Stored.{AwaitsBirth, StoredAs}
 use Rattle.node_cells.specs.Turns.{MayBegin}
 use Rattle.node_cells.specs.declared.new_cells.Cells.{Cells}
 use Rattle.node_cells.specs.declared.new_cells.NewNode.{NewNode}
-use Rattle.proc_api.proofs.Follows.{follows-new}
+use Rattle.proc_api.proofs.Follows.{follows-new, position-still}
 use Rattle.proc_api.proofs.Graphs.{few-inputs, few-outputs, input-of-count, output-of-count}
 use Rattle.proc_api.specs.Reserves.{AreStarting, StartsAs, is_reserved}
 use Rattle.std.proofs.Common.{map, suc, zero, ◌∷◌}
@@ -28,6 +27,13 @@ use Rattle.std.proofs.Math.ListN.{get_elem?, get_or}
 use Rattle.std.proofs.lemmas.Bool.{and_from, both_ways}
 use Rattle.std.proofs.lemmas.List.FromFn.{get_or-map-range_with_len}
 use mathlib.Core.Option.{some, some-injective, some-ne-none}
+
+-- a fresh box keeps its contract where nothing passed
+pub fresh-box : (p : BoxPicture) (ins outs : ℕ) → IsFresh p → BoxHolds ins outs p no_lists no_lists
+fresh-box p ins outs fresh =
+    let still : StandStill p.spec p.notes.view ins outs =
+    rw fresh.notes (position-still p.spec None ins outs tt) in
+    search (rules, fresh.notes, fresh.keeps, still)
 
 module _ {P : Type 0} (seen : P → BoxPicture) (t : Identity)
     (g : IsGraphOfNodes t.sizes.nodes t.sizes.wires t.sizes.reserves) (n : ℕ)
@@ -59,16 +65,6 @@ module _ {P : Type 0} (seen : P → BoxPicture) (t : Identity)
   new-numbers : AreEdgesOf t.sizes.wires n x.ports.inputs.items x.ports.outputs.items
   new-numbers = new-edges t.sizes n inside g _ _ _ _ new.inputs new.outputs
 
-  -- a fresh box keeps its contract where nothing passed
-  fresh-box : IsFresh box → BoxHolds many_in many_out box no_lists no_lists
-  fresh-box fresh = (new-node t.sizes.wires n (record {
-    box = box;
-    view = new_picture many_in many_out;
-    mark = new_mark many_out;
-    inputs = x.ports.inputs.items;
-    outputs = x.ports.outputs.items;
-  }) fresh (record { view = refl; mark = refl; numbers = new-numbers })).box
-
   fresh-node : IsFresh box → (m : NodeMark) → m.state ≡ node.Due
       → CellNodeHolds box m (cell_ports x)
   fresh-node fresh m due = subst (CellNodeHolds box m) (sym first-ports) record {
@@ -82,7 +78,7 @@ module _ {P : Type 0} (seen : P → BoxPicture) (t : Identity)
           sym (nothing-pushed t.sizes n inside g _ _ _ _ new.inputs new.outputs) j,
         ),
       ),
-    )) (fresh-box fresh);
+    )) (fresh-box box many_in many_out fresh);
     kept = λ _. follows-new box many_in many_out fresh.notes;
     mark = subst (λ k. MarkHolds k m.last (length x.ports.inputs.items)
         (length x.ports.outputs.items) box (new_picture many_in many_out)) (sym due) tt;
@@ -112,11 +108,18 @@ module _ {P : Type 0} (seen : P → BoxPicture) (t : Identity)
         mark = λ over. let z : node.Due ≡ node.Over = sym due ∙ over in cc;
       }
 
-  new-kept : IsBlank box → is_reserved t.sizes.reserves n ≡ true → IsKept seen t x
-  new-kept blank held = record {
+  new-awaits : IsBlank box → is_reserved t.sizes.reserves n ≡ true → AwaitsBirth seen t x
+  new-awaits blank held = record {
     seat = seat.0;
     blank = blank;
-    quiet = ap (λ (v : Picture). v.actions) new.view;
+    ports = subst PortsHold (sym first-ports)
+        (new-ports t.sizes n inside g _ _ _ _ new.inputs new.outputs);
+    new_view = new.view
+        ∙ (λ j. new_picture (sym new.inputs.edges_len j) (sym new.outputs.edges_len j));
+    pulled = λ i. (λ j. pulled_by (first-ports j) i)
+        ∙ (λ j. nothing-pulled t.sizes n inside g _ _ _ _ new.inputs new.outputs j i);
+    pushed = λ o. (λ j. pushed_by (first-ports j) o)
+        ∙ (λ j. nothing-pushed t.sizes n inside g _ _ _ _ new.inputs new.outputs j o);
     unborn = ap is_unborn_stage (stage-is ∙ ap (λ b. cond b Unborn Born) held);
     tokens = ap (λ (z : SeatState). z.tokens) state-is;
     owes = ap (λ (z : SeatState). z.owes) state-is;
@@ -129,7 +132,7 @@ module _ {P : Type 0} (seen : P → BoxPicture) (t : Identity)
     stored = elim (cases_Bool (is_reserved t.sizes.reserves n)) [
       | inl held ↦ subst (λ k. StoredAs seen t k x)
           (sym (ap (λ (m : NodeMark). m.state) (mark ∙ ap first_mark held)))
-          (new-kept (subst (λ b. StartsAs b box) held starts) held)
+          (new-awaits (subst (λ b. StartsAs b box) held starts) held)
       | inr free ↦ subst (λ k. StoredAs seen t k x)
           (sym (ap (λ (m : NodeMark). m.state) (mark ∙ ap first_mark free)))
           (new-begins (subst (λ b. StartsAs b box) free starts) free (mark ∙ ap first_mark free))

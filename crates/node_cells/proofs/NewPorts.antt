@@ -79,13 +79,16 @@ module _ (s : Sizes) (n : ℕ) (inside : n < s.nodes) where
   end-start e lt = get_or-map-range_with_len (end_view (start_board s) n) 0 (edge_count s) e e
       no_end lt (omega arith)
 
+  past-start : (e : ℕ) → edge_count s ≤ e → end_of_view here e ≡ no_end
+  past-start e le = get_or_past here.ends e no_end
+      (let l = length-map-range_with_len (end_view (start_board s) n) 0 (edge_count s) in
+      omega (arith, l, le))
+
   chunks-start : (e : ℕ) → (end_of_view here e).chunks ≡ []
   chunks-start e = elim (cases_lt e (edge_count s)) [
     | inl lt ↦ ap (λ (z : EdgeEnd). z.chunks) (end-start e lt)
         ∙ grind (arith, lane-none (start s).ports e)
-    | inr le ↦ ap (λ (z : EdgeEnd). z.chunks) (get_or_past here.ends e no_end
-        (let l = length-map-range_with_len (end_view (start_board s) n) 0 (edge_count s) in
-        omega (arith, l, le)))
+    | inr le ↦ ap (λ (z : EdgeEnd). z.chunks) (past-start e le)
   ]
 
   chunks-none : (edges : List ℕ) (k : ℕ) → chunks_on here edges k ≡ []
@@ -106,6 +109,23 @@ module _ (s : Sizes) (n : ℕ) (inside : n < s.nodes) where
       (omega arith) in
       ap (λ (z : EdgeEnd). z.wire) (end-start e within)
       ∙ grind (arith, lt, named, port, knows-start e lt named)
+
+  -- of an edge at which it isn't it has nothing
+  bare-start : (e : ℕ) → knows e here.state.seen ≡ false → end_of_view here e ≡ no_end
+  bare-start e un = elim (cases_lt e (edge_count s)) [
+    | inl within ↦
+        let port = get_or-map-range_with_len (start_port s) 0 (edge_count s) e e no_port within
+        (omega arith) in
+        end-start e within ∙ elim (cases_lt e (length s.wires)) [
+          | inl lt ↦ elim (cases_Bool (names n (Some (get_or s.wires e no_wire)))) [
+            | inl named ↦ let k = knows-start e lt named in
+                absurd (let z : true ≡ false = sym k ∙ un in cc)
+            | inr away ↦ grind (arith, port, lt, away)
+          ]
+          | inr le ↦ grind (arith, port, le)
+        ]
+    | inr le ↦ past-start e le
+  ]
 
 -- ---- the ports
 
@@ -251,6 +271,7 @@ module _ (s : Sizes) (n : ℕ) (inside : n < s.nodes) (g : IsGraphOfNodes s.node
       record {
         known = known-there;
         cover = covers;
+        bare = bare-start s n inside;
         unlooked = λ e q. ap (λ (z : SeatState). has e (edges_of z.seen)) (state-start s n inside)
             ∙ (ap (λ (z : SeatState). has e z.unlooked) (sym (state-start s n inside)) ∙ q);
         updated = λ p own unlooked. each-updated p;

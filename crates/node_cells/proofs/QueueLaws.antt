@@ -5,7 +5,7 @@ use Rattle.node_cells.specs.declared.stop_cause.StopCause.{StopCause}
 use Rattle.node_ports.specs.Peers.{CarriesNext}
 use Rattle.node_ports.specs.declared.actions.Carry.{Carry}
 use Rattle.node_ports.specs.declared.actions.Carry.TheVariants as carry
-use Rattle.task_queue.specs.Tasks.{AreOffered, IsOffered, OffersNumbers, SharesNumber, offered_more, offered_none, offered_shared}
+use Rattle.task_queue.specs.Tasks.{AreOffered, IsOfferedNext, OffersNumbers, SharesNumber, offered_more, offered_none, offered_shared}
 use Rattle.proc_api.specs.declared.status.Status.{Status}
 use Rattle.task_queue.proofs.KeptNumbers.{offers-both, offers-none}
 use Rattle.task_queue.specs.declared.queue.TaskQueue.{TaskQueue}
@@ -42,7 +42,7 @@ module _ {P : Type 0} {t : Identity} {q : TaskQueue} {old mid : NodeCell P}
   -- or one that was offered
   pub queues-charged : (n : ℕ) (new : NodeCell P) (after : WorkerTasks)
       → CarriesNext t r (cell_ports mid) new.ports new.seat → r ≡ carry.Charged n
-      → IsOffered q n between after → Queues t q old new before after
+      → IsOfferedNext q n between after → Queues t q old new before after
   queues-charged n new after c is offered = record {
     charged = _;
     charges = charges_more h.charges c;

@@ -1,6 +1,6 @@
 -- A node that has looked at its ports is prepared.
-use Rattle.node_cells.proofs.Imports.{Input, Output, Identity, InTurn, IsSeatOf, NodeCell, NodePorts, NodeSeat, SameLists, SamePorts, cell_ports, view, Flags, None, BoxHolds, BoxPicture, CellPicture, FollowsKept, InputPort, IsDifference, Lists, MarkHolds, NodeMark, Option, Picture, PortsHold, PortsPicture, Some, Table, NodeTurns, ViewHolds, [], ap, append-nil, chunks_on, input_at, length, ports_picture, pulled_by, pushed_by, pushes_to, refl, shown, subst, sym, taken_out, with_pulled, with_pushed, ℕ, ◌++◌, ◌∙◌, ◌≡◌, CellNodeHolds}
-use Rattle.node_ports.proofs.Shown.{quiet-sight}
+use Rattle.node_cells.proofs.Imports.{Input, Output, Identity, InTurn, IsSeatOf, NodeCell, NodePorts, NodeSeat, SameLists, SamePorts, cell_ports, view, Flags, BoxHolds, BoxPicture, CellPicture, FollowsKept, InputPort, IsDifference, Lists, MarkHolds, NodeMark, Picture, PortsHold, PortsPicture, Some, NodeTurns, ViewHolds, [], ap, append-nil, chunks_on, input_at, length, ports_picture, pulled_by, pushed_by, pushes_to, shown, subst, sym, taken_out, with_pulled, with_pushed, ℕ, ◌++◌, ◌∙◌, ◌≡◌, CellNodeHolds}
+use Rattle.node_ports.proofs.Shown.{quiet-sight, taken-itself}
 use Rattle.exec_laws.proofs.Turns.{explained, pushed-by-actions, turned-box, turned-kept, turned-mark, turned-view}
 use Rattle.exec_laws.specs.Names.{state_after}
 use Rattle.node_ports.specs.Sights.{Looked}
@@ -38,10 +38,6 @@ module _ (p q : BoxPicture) (m k : NodeMark) (c : PortsPicture) (v : Picture)
       ))
       e.explains
 
-  none-taken : (x : Option Table) → taken_out x x ≡ []
-  none-taken None = refl
-  none-taken (Some x) = refl
-
   pulled-new : (i : ℕ) → with_pulled c.view t.left (pulled_by c) i ≡ pulled_by after i
   pulled-new i = let same = quiet-sight c h.ports quiet (Input i) in
       (λ j. (chunks_on c.node c.inputs i
@@ -49,7 +45,7 @@ module _ (p q : BoxPicture) (m k : NodeMark) (c : PortsPicture) (v : Picture)
       ++ taken_out (same j).chunk (sym (t.leaves.chunks.inputs i) j))
       ∙ (ap (λ l. (chunks_on c.node c.inputs i ++ l)
       ++ taken_out (input_at (shown c) i).chunk (input_at v i).chunk)
-      (none-taken (input_at (shown c) i).chunk)
+      (taken-itself (input_at (shown c) i).chunk)
       ∙ ap (λ l. l ++ taken_out (input_at (shown c) i).chunk (input_at v i).chunk)
       (append-nil (chunks_on c.node c.inputs i)))
 
@@ -76,6 +72,7 @@ module _ (p q : BoxPicture) (m k : NodeMark) (c : PortsPicture) (v : Picture)
       there = w.there;
       is = w.is;
     };
+    bare = h.ports.bare;
     unlooked = h.ports.unlooked;
     updated = h.ports.updated;
     peers = h.ports.peers;

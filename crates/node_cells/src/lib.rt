@@ -14,7 +14,7 @@
 //! - `node_run.rt`: a node's run on a worker, turn after turn
 //! - `node_visit.rt`: a visit of a node whose cell lies on a shelf
 //! - `stop_cause.rt`: why the run of all stops at a node
-//! - `new_cells.rt`: the cells of a new table
+//! - `new_cells.rt`: the cells of a new table, and how a wire is looked for at a node's port
 //! - `settled_cells.rt`: what follows of all cells where nothing is pending
 //! - `specs/Cells.antt`: the law of a cell; `specs/Turns.antt`: where a cell is in its turn, and
 //!   what stays of it; `specs/Stops.antt`: what stops the run of all; `specs/Visits.antt`: what a
@@ -33,7 +33,7 @@ mod stop_cause;
 
 pub use calls::{expand, schedule, work};
 pub use cell::NodeCell;
-pub use new_cells::{Cells, make_cells};
+pub use new_cells::{Cells, count_inputs, count_outputs, ends_at, make_cells, peer_of};
 pub use node_run::{RunEnd, resume, run_node};
 pub use node_visit::visit_node;
 pub use node_word::{begin, carry, leave, rest, wake};

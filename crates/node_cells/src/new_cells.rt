@@ -219,13 +219,15 @@ fn new_ports(alloc: Global, n: usize, wires: &[Wire]) -> Result<NodePorts, Memor
     })
 }
 
-fn count_inputs(wires: &[Wire], n: usize) -> usize
+/// How many of the wires end at the node.
+pub fn count_inputs(wires: &[Wire], n: usize) -> usize
     ensures { result ≡ input_count wires.now n }
 {
     wires.iter().filter(|w| w.to as usize == n).count()
 }
 
-fn count_outputs(wires: &[Wire], n: usize) -> usize
+/// How many of the wires begin at the node.
+pub fn count_outputs(wires: &[Wire], n: usize) -> usize
     ensures { result ≡ output_count wires.now n }
 {
     wires.iter().filter(|w| w.from as usize == n).count()
@@ -272,7 +274,13 @@ fn peer_at(wires: &[Wire], e: usize, port: Port) -> u32
     requires { e < length wires.now }
     ensures { result ≡ peer (wire_at wires.now e) port }
 {
-    let wire = &wires[e];
+    peer_of(&wires[e], port)
+}
+
+/// The node at the wire's other end.
+pub fn peer_of(wire: &Wire, port: Port) -> u32
+    ensures { result ≡ peer wire.now port }
+{
     match port {
         Port::Input(_) => wire.from,
         Port::Output(_) => wire.to,
@@ -286,14 +294,15 @@ fn edge_at(wires: &[Wire], n: usize, port: Port) -> usize
     ensures { HasEdge wires.now n port result }
 {
     for (e, wire) in wires.iter().enumerate() {
-        if is_end(wire, n, port) {
+        if ends_at(wire, n, port) {
             return e;
         }
     }
     wires.len()
 }
 
-fn is_end(wire: &Wire, n: usize, port: Port) -> bool
+/// Whether the wire ends at the port of the node.
+pub fn ends_at(wire: &Wire, n: usize, port: Port) -> bool
     ensures { result ≡ ends_at wire.now n port }
 {
     match port {

@@ -2,7 +2,7 @@
 ghost use Rattle.std.specs.Prelude.{◌<◌, IfErr, IfOk};
 ghost use Rattle.exec_table.specs.Seats.{identity_of};
 ghost use Rattle.task_queue.specs.Queues.{IsPassOf};
-ghost use Rattle.task_queue.specs.Tasks.{IsOffered, SharesNumber};
+ghost use Rattle.task_queue.specs.Tasks.{IsOfferedNext, SharesNumber};
 ghost use Rattle.node_cells.specs.Stops.{stop_of};
 ghost use Rattle.node_cells.specs.Turns.{Fetches, FollowsAnswer, GoesOn, IsAtWork, IsCarried, IsDue, IsPrepared, IsStopped, KeepsProcessor, Queues, RunEndHolds, Stays, TakesTurns};
 ghost use Rattle.node_cells.specs.Visits.{Resumes};
@@ -59,7 +59,7 @@ fn offer_peer<R: Wait>(rt: &R, queue: &TaskQueue, tasks: &mut WorkerTasks, n: u3
     requires pass { IsPassOf queue.now tasks.old.pass }
     requires few { n < 256 }
     ensures pass { IsPassOf queue.now tasks.new.pass }
-    ensures offered { IsOffered queue.now n tasks.old tasks.new }
+    ensures offered { IsOfferedNext queue.now n tasks.old tasks.new }
 {
     if goes_on {
         tasks.offer_next(rt, queue, n);

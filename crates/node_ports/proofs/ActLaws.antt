@@ -1,6 +1,6 @@
 -- A step of the table carries an action out.
 use Rattle.node_ports.proofs.Imports.{Acted, Action, Bool, Chunk, Close, EdgeEnd, Finish, Flags, Input, Identity, InputPort, ShowsInFlags, IsPort, IsSeatOf, List, MakesStep, MayAct, NodePorts, NodeSeat, NodeView, None, Option, Output, Picture, Port, PortKnown, PortsPicture, Pull, Push, SeatState, Some, Table, Unwant, Want, [], action_port, and_from, ap, append-nil, append_assoc, arith, chunk_after, chunk_step, cond, edge_of, end_of_view, eq-eqb, false, flags_at, get_or, get_or-set_other, get_or-set_same, has, holds_data, in_count, input_at, input_step, is_end, is_own_port, is_some, knows, length, length-set, lifted_of, ne_eqb, not, nothing, out_count, output_at, output_step, ports_picture, push-away, pushes_to, ready, refl, seat_after, seeing-here, set, shown, slot_in, state-made, step_of, subst, sym, taken_out, true, untaken, view, ℕ, ◌++◌, ◌<◌, ◌∙◌, ◌∷◌, ◌≡◌, ◌≢◌}
-use Rattle.node_ports.proofs.Shown.{Differs, Here, IsPortReady, MovesAt, SameEdge, Waits, apart-edges, differs-at, end-side, is_input, lifted_at, moved-holds, moved-lists, passed-at, shown-at, shown-input, sight, still-updated, waiting}
+use Rattle.node_ports.proofs.Shown.{Differs, Here, IsPortReady, MovesAt, SameEdge, Waits, differs-at, end-side, is_input, lifted_at, moved-holds, moved-lists, passed-at, shown-at, shown-input, sight, still-updated, waiting}
 use Rattle.node_ports.specs.Peers.{is_to_tell}
 use Rattle.exec_table.proofs.Hands.{may_learn}
 use Rattle.exec_table.proofs.Ends.{edges-made, ends-made, number-made, same-made, slot-home, slot-kept, stage-made}
@@ -360,6 +360,7 @@ module _ {t : Identity} (old new : NodeSeat) (ports : NodePorts) (s : IsSeatOf t
 
     here : Here (untaken a start) d p
     here = record {
+      own = own;
       wire = ap (λ (z : EdgeEnd). z.wire) (end a h m) ∙ wire-stays a (end_at a);
       differs = subst (λ y. Differs p y start.view) (sym sight-acted)
           (differs-acted p a start (sight (shown start) p)
@@ -368,10 +369,8 @@ module _ {t : Identity} (old new : NodeSeat) (ports : NodePorts) (s : IsSeatOf t
       passes = passed-at d p own ∙ (passes a h m ∙ sym (passed-at (untaken a start) p own));
     }
 
-    same-there : (q : Port) → is_own_port start q → Some p ≢ Some q
-        → SameEdge (untaken a start) d (edge_of start q)
-    same-there q l ne = let was = same-made s m (edge_of start q) (step-elsewhere a
-        (edge_of start q) (at a) k (apart-edges (untaken a start) h.holds p q own l ne)) in
+    same-there : (e : ℕ) → e ≢ at a → SameEdge (untaken a start) d e
+    same-there e ne = let was = same-made s m e (step-elsewhere a e (at a) k ne) in
         record { flags = was.flags; end = was.end; slot = was.slot }
 
     moves : MovesAt (untaken a start) d (Some p)
@@ -387,7 +386,7 @@ module _ {t : Identity} (old new : NodeSeat) (ports : NodePorts) (s : IsSeatOf t
       edges = edges-made s m (step-plain a (at a) k);
       unlooked = still-updated (untaken a start) h.holds d.node.state.unlooked
           (λ e q. ap (λ (z : SeatState). has e z.unlooked) (sym state) ∙ q);
-      others = same-there;
+      others = λ e ne. same-there e (ne p refl);
       ins = refl;
       outs = refl;
       sound = h.sound;

@@ -1,6 +1,6 @@
 -- A node looks at one of its ports.
 use Rattle.node_ports.proofs.Imports.{StepAnswer, Bool, BoxPicture, Chunk, Flags, FollowsKept, Identity, Input, InputPort, IsEnd, IsSeatOf, IsSound, MakesStep, MaySee, NodePorts, NodeSeat, NodeView, None, Option, Output, Picture, Port, PortKnown, PortsHold, PortsPicture, SeatState, Sees, Some, Table, Wire, [], after_see, and_parts, ap, arith, cases_Bool, edge_of, edges_of, end_of, end_of_view, eq-eqb, false, flags, flags_at, has, has-filter, holds-in, holds_chunk, holds_data, in_count, inl, input_at, inr, is_chunk_due, is_end, is_own_port, is_some, knows, known-wire, lifted_of, ne_eqb, no_flags, node_at, not, out_count, port_at, port_chunk, port_flags, ports_picture, pushes_to, refl, seat_after, seeing-here, seen_chunk, shown, slot_of, slots, state-made, subst, sym, true, view, ℕ, ◌&&◌, ◌<◌, ◌==◌, ◌∙◌, ◌≡◌, ◌≢◌, ◌⊎◌}
-use Rattle.node_ports.proofs.Shown.{Here, IsPortReady, MovesAt, SameEdge, Waits, apart-edges, differs-quiet, end-there, is_input, lifted_at, moved-holds, moved-lists, quiet-passed, quiet-seen, quiet-sight, seen_at, shown-at, sight, still-updated}
+use Rattle.node_ports.proofs.Shown.{Here, IsPortReady, MovesAt, SameEdge, Waits, differs-quiet, end-there, is_input, lifted_at, moved-holds, moved-lists, quiet-passed, quiet-seen, quiet-sight, seen_at, shown-at, sight, still-updated}
 use Rattle.node_ports.specs.Sights.{Lifts, LookedAt, MayLook, has_chunk, is_lift_due}
 use Rattle.exec_table.proofs.Ends.{edges-made, look-made, look-slot, number-made, same-made, stage-made}
 use Rattle.exec_table.proofs.Hands.{has-slot}
@@ -357,13 +357,12 @@ module _ {t : Identity} {old mid new : NodeSeat} {f : Flags} {x : Option Table} 
     chunk = sym (lies ports o may p own m l) j;
   }
 
-  same-there : (q : Port) → is_own_port was q → Some p ≢ Some q → SameEdge was now (edge_of was q)
-  same-there q k ne = let apart = apart-edges was may.holds p q own k ne in
-      let s = same-made o m (edge_of was q) (ne_eqb (edge_of was q) at apart) in record {
-        flags = ap (λ (v : NodeView). flags_at (edge_of was q) v.state.seen) l.same ∙ s.flags;
-        end = ap (λ v. end_of_view v (edge_of was q)) l.same ∙ s.end;
-        slot = l.others (edge_of was q) apart ∙ s.slot;
-      }
+  same-there : (e : ℕ) → e ≢ at → SameEdge was now e
+  same-there e ne = let s = same-made o m e (ne_eqb e at ne) in record {
+    flags = ap (λ (v : NodeView). flags_at e v.state.seen) l.same ∙ s.flags;
+    end = ap (λ v. end_of_view v e) l.same ∙ s.end;
+    slot = l.others e ne ∙ s.slot;
+  }
 
   has-now : (d : ℕ) → has d (view new).state.unlooked
       ≡ (not (d == at) && has d (view old).state.unlooked)
@@ -372,6 +371,7 @@ module _ {t : Identity} {old mid new : NodeSeat} {f : Flags} {x : Option Table} 
 
   here : Here was now p
   here = record {
+    own = own;
     wire = ap (λ v. (end_of_view v at).wire) l.same ∙ (look-made o m).wire;
     differs = differs-quiet p (sight (shown now) p) now.view quiet (is ∙ sym (shown-at now p own));
     ready = subst (IsPortReady now p) (is ∙ sym (shown-at now p own))
@@ -393,7 +393,7 @@ module _ {t : Identity} {old mid new : NodeSeat} {f : Flags} {x : Option Table} 
     edges = ap (λ (v : NodeView). edges_of v.state.seen) l.same ∙ edges-made o m refl;
     unlooked = still-updated was may.holds (view new).state.unlooked
         (λ d q. (and_parts (not (d == at)) _ (sym (has-now d) ∙ q)).1);
-    others = same-there;
+    others = λ e ne. same-there e (ne p refl);
     ins = left.ins;
     outs = left.outs;
     sound = sound;

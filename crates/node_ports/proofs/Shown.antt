@@ -43,11 +43,11 @@ lifted_at c (Output o) = None
 abbrev pub seen_at : PortsPicture → Port → InputPort
 seen_at c p = record { flags = flags_at (edge_of c p) c.node.state.seen; chunk = lifted_at c p }
 
-abbrev edges_at : PortsPicture → Port → List ℕ
+abbrev pub edges_at : PortsPicture → Port → List ℕ
 edges_at c (Input i) = c.inputs
 edges_at c (Output o) = c.outputs
 
-abbrev place : Port → ℕ
+abbrev pub place : Port → ℕ
 place (Input i) = i
 place (Output o) = o
 
@@ -76,7 +76,7 @@ module _ (c : PortsPicture) where
   shown-at (Output o) lt = ap (λ f. record { flags = f; chunk = None }) (shown-output o lt)
 
   -- past the ports nothing shows, and nothing went by
-  past-sight : (p : Port) → length (edges_at c p) ≤ place p
+  pub past-sight : (p : Port) → length (edges_at c p) ≤ place p
       → sight (shown c) p ≡ sight (record { inputs = []; outputs = []; actions = [] }) p
   unfolding input_at output_at
   past-sight (Input i) le = get_or_past (map (input_seen c.node c.slots) c.inputs) i no_input
@@ -85,12 +85,12 @@ module _ (c : PortsPicture) where
       (get_or_past (map (output_seen c.node) c.outputs) o over_flags
       (let l = length-map c.outputs (output_seen c.node) in omega (arith, l, le)))
 
-  past-chunks : (p : Port) → length (edges_at c p) ≤ place p → port_chunks c p ≡ []
+  pub past-chunks : (p : Port) → length (edges_at c p) ≤ place p → port_chunks c p ≡ []
   past-chunks p le = get_or_past (map (λ e. (end_of_view c.node e).chunks) (edges_at c p)) (place p)
       [] (let l = length-map (edges_at c p) (λ e. (end_of_view c.node e).chunks) in
       omega (arith, l, le))
 
-  own-or-past : (p : Port) → is_own_port c p ⊎ (length (edges_at c p) ≤ place p)
+  pub own-or-past : (p : Port) → is_own_port c p ⊎ (length (edges_at c p) ≤ place p)
   own-or-past (Input i) = cases_lt i (length c.inputs)
   own-or-past (Output o) = cases_lt o (length c.outputs)
 
@@ -170,6 +170,11 @@ pub quiet-seen : (c : PortsPicture) → PortsHold c → c.view.actions ≡ [] �
     → is_own_port c p → sight c.view p ≡ seen_at c p
 quiet-seen c h q p own = quiet-sight c h q p ∙ shown-at c p own
 
+-- nothing was taken out of a port that has what it had
+pub taken-itself : (x : Option Table) → taken_out x x ≡ []
+taken-itself None = refl
+taken-itself (Some c) = refl
+
 -- where no action waits nothing does
 quiet-waiting : (c : PortsPicture) (p : Port) → c.view.actions ≡ [] → sight c.view p ≡ seen_at c p
     → waiting c p ≡ []
@@ -177,10 +182,6 @@ unfolding pushes_to
 quiet-waiting c (Input i) q is =
     ap (λ (x : InputPort). taken_out (lifted_at c (Input i)) x.chunk) is
     ∙ taken-itself (lifted_at c (Input i))
-  where
-    taken-itself : (x : Option Table) → taken_out x x ≡ []
-    taken-itself None = refl
-    taken-itself (Some c) = refl
 quiet-waiting c (Output o) q is = ap (pushes_to o) q
 
 -- so what passed is what went by on the edge
@@ -225,6 +226,7 @@ Waits (Output o) v w = pushes_to o w.actions ≡ pushes_to o v.actions
 
 -- the port at which the step was
 pub record Here (c d : PortsPicture) (p : Port) : Type 0 where
+  pub own : is_own_port c p
   pub wire : (end_of_view d.node (edge_of c p)).wire ≡ (end_of_view c.node (edge_of c p)).wire
   pub differs : Differs p (sight (shown d) p) d.view
   pub ready : IsPortReady d p (sight (shown d) p)
@@ -245,13 +247,13 @@ still-updated c h edges fewer = record {
   named = λ p own q. h.updated p own (fewer (edge_of c p) q);
 }
 
--- Of all other ports the seat knows what it knew, and the view explains what it shows by the port
--- as it was.
+-- Of all other edges the seat knows what it knew, and the view explains what another port shows by
+-- the port as it was.
 pub record MovesAt (c d : PortsPicture) (at : Option Port) : Type 0 where
   pub ports : SamePorts c d
   pub edges : edges_of d.node.state.seen ≡ edges_of c.node.state.seen
   pub unlooked : AreUpdated c d.updated d.node.state.unlooked
-  pub others : (q : Port) → is_own_port c q → at ≢ Some q → SameEdge c d (edge_of c q)
+  pub others : (e : ℕ) → ((p : Port) → at ≡ Some p → e ≢ edge_of c p) → SameEdge c d e
   pub ins : in_count d.view ≡ in_count c.view
   pub outs : out_count d.view ≡ out_count c.view
   pub sound : IsSound d.view
@@ -280,6 +282,15 @@ module _ (c d : PortsPicture) (at : Option Port) (h : PortsHold c) (m : MovesAt 
   same-known : (e : ℕ) → knows e d.node.state.seen ≡ knows e c.node.state.seen
   same-known e = ap (has e) m.edges
 
+  other-port : (q : Port) → is_own_port c q → at ≢ Some q → SameEdge c d (edge_of c q)
+  other-port q own ne = m.others (edge_of c q) (λ p is. apart-edges c h p q (m.here p is).own own
+      (λ same. ne (is ∙ same)))
+
+  unlearned : (e : ℕ) → knows e c.node.state.seen ≡ false → SameEdge c d e
+  unlearned e un = m.others e (λ p is same.
+      let k = (h.known p (m.here p is).own).known in
+      let z : true ≡ false = sym k ∙ (ap (λ f. knows f c.node.state.seen) (sym same) ∙ un) in cc)
+
   moved-known : (q : Port) → is_own_port d q → PortKnown d q
   moved-known q k = let l = old-own q k in let was = h.known q l in record {
     known = ap (λ e. knows e d.node.state.seen) (same-edge q)
@@ -287,7 +298,7 @@ module _ (c d : PortsPicture) (at : Option Port) (h : PortsHold c) (m : MovesAt 
     wire = was.wire;
     is = ap (λ e. (end_of_view d.node e).wire) (same-edge q) ∙ (elim (at-or-not at q) [
       | inl e ↦ (m.here q e).wire
-      | inr ne ↦ ap (λ (z : EdgeEnd). z.wire) (m.others q l ne).end
+      | inr ne ↦ ap (λ (z : EdgeEnd). z.wire) (other-port q l ne).end
     ] ∙ was.is);
     at_port = subst (λ n. IsEnd was.wire n q) (sym m.ports.number) was.at_port;
     apart = was.apart;
@@ -316,7 +327,7 @@ module _ (c d : PortsPicture) (at : Option Port) (h : PortsHold c) (m : MovesAt 
 
   sight-elsewhere : (q : Port) → at ≢ Some q → sight (shown d) q ≡ sight (shown c) q
   sight-elsewhere q ne = elim (own-or-past c q) [
-    | inl lt ↦ shown-at d q (new-own q lt) ∙ (seen-same q (m.others q lt ne)
+    | inl lt ↦ shown-at d q (new-own q lt) ∙ (seen-same q (other-port q lt ne)
         ∙ sym (shown-at c q lt))
     | inr past ↦ past-sight d q (past-too q past) ∙ sym (past-sight c q past)
   ]
@@ -325,7 +336,7 @@ module _ (c d : PortsPicture) (at : Option Port) (h : PortsHold c) (m : MovesAt 
   chunks-elsewhere q ne = elim (own-or-past c q) [
     | inl lt ↦ port-chunks d q (new-own q lt) ∙ (ap (λ e. (end_of_view d.node e).chunks)
         (same-edge q)
-        ∙ (ap (λ (z : EdgeEnd). z.chunks) (m.others q lt ne).end ∙ sym (port-chunks c q lt)))
+        ∙ (ap (λ (z : EdgeEnd). z.chunks) (other-port q lt ne).end ∙ sym (port-chunks c q lt)))
     | inr past ↦ past-chunks d q (past-too q past) ∙ sym (past-chunks c q past)
   ]
 
@@ -342,7 +353,7 @@ module _ (c d : PortsPicture) (at : Option Port) (h : PortsHold c) (m : MovesAt 
     h.held i,
   )
   ready-elsewhere (Output o) lt ne = λ n z. ap (λ e. slot_in e d.slots) (same-edge (Output o))
-      ∙ ((m.others (Output o) lt ne).slot ∙ h.ready o lt n z)
+      ∙ ((other-port (Output o) lt ne).slot ∙ h.ready o lt n z)
 
   -- ---- each port
 
@@ -376,6 +387,7 @@ module _ (c d : PortsPicture) (at : Option Port) (h : PortsHold c) (m : MovesAt 
   moved-holds = record {
     known = moved-known;
     cover = moved-cover;
+    bare = λ e k. let un = sym (same-known e) ∙ k in (unlearned e un).end ∙ h.bare e un;
     unlooked = λ e k. same-known e ∙ m.unlooked.known e k;
     updated = λ q own k. m.unlooked.named q (old-own q own)
         (ap (λ e. has e d.node.state.unlooked) (sym (same-edge q)) ∙ k);

@@ -1,5 +1,5 @@
 -- A step of the seat at no port.
-use Rattle.node_ports.proofs.Imports.{Chunk, Identity, Input, IsSeatOf, MakesStep, NodePorts, NodeSeat, None, Option, Output, Picture, Port, PortsHold, PortsPicture, SameLists, SeatState, Some, Step, StepAnswer, Updated, ap, edge_of, edges_of, false, has, ports_picture, refl, seat_after, shown, state-made, sym, view, ℕ, ◌∙◌, ◌≡◌}
+use Rattle.node_ports.proofs.Imports.{Chunk, Identity, Input, IsSeatOf, MakesStep, NodePorts, NodeSeat, None, Option, Output, Picture, Port, PortsHold, PortsPicture, SameLists, SeatState, Some, Step, StepAnswer, Updated, ap, edges_of, false, has, ports_picture, refl, seat_after, shown, state-made, sym, view, ℕ, ◌∙◌, ◌≡◌}
 use Rattle.node_ports.proofs.Shown.{AreUpdated, MovesAt, Waits, differs-at, moved-holds, moved-lists, still-updated}
 use Rattle.exec_table.proofs.Hands.{may_learn}
 use Rattle.exec_table.proofs.Ends.{edges-made, number-made, same-made}
@@ -49,7 +49,7 @@ module _ (p : NodePorts) (u : Updated) (old new : NodeSeat) (h : PortsHold (port
     };
     edges = k.edges;
     unlooked = k.unlooked;
-    others = λ q o ne. let s = k.same (edge_of (ports_picture p old) q) in record {
+    others = λ e ne. let s = k.same e in record {
       flags = s.flags;
       end = s.end;
       slot = s.slot;

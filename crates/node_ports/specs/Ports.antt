@@ -1,5 +1,6 @@
 -- What a node has of its ports, and the law that ties it to the node's seat.
 use Rattle.std.specs.Prelude.{Bool, List, None, Option, Some, [], false, is_some, length, map, slice_index_or, true, ℕ, ◌++◌, ◌<◌, ◌||◌, ◌≡◌, ◌≢◌}
+use Rattle.exec_table.specs.Boards.{no_end}
 use Rattle.node_ports.specs.Prelude.{Flags, InputPort, IsDifference, IsEnd, IsPort, IsSound, Lists, NodePorts, NodeSeat, NodeView, Input, Output, Picture, Port, Slots, Table, Updated, Wire, end_of_view, flags_at, has, holds_data, in_count, input_at, is_set, knows, out_count, output_at, peer, port_edge, pushes_to, slot_in, slots, taken_out, view}
 
 -- ---- the picture
@@ -104,12 +105,14 @@ pub record HasPortOf (c : PortsPicture) (e : ℕ) : Type 0 where
   pub is : edge_of c port ≡ e
 
 -- The ports are those of the edges that the seat has learned, and only updated ones are unlooked.
+-- Of another edge the seat has nothing.
 -- The view shows them as the seat knows them, but for the actions that wait. An open input with
 -- data has its chunk out of the slot, and the slot of an output that was asked for and is empty is
 -- out with the seat.
 pub record PortsHold (c : PortsPicture) : Type 0 where
   pub known : (p : Port) → is_own_port c p → PortKnown c p
   pub cover : (e : ℕ) → knows e c.node.state.seen ≡ true → HasPortOf c e
+  pub bare : (e : ℕ) → knows e c.node.state.seen ≡ false → end_of_view c.node e ≡ no_end
   pub unlooked : (e : ℕ) → has e c.node.state.unlooked ≡ true → knows e c.node.state.seen ≡ true
   pub updated : (p : Port) → is_own_port c p → has (edge_of c p) c.node.state.unlooked ≡ true
       → is_updated_port p c.updated ≡ true

@@ -1,0 +1,6 @@
+use Rattle.node_births.proofs.Learning.{wire-set}
+use Rattle.node_births.proofs.more_ports.set_wire.Goals as goal
+
+pub returns-in-Ok-clause-learns : goal.returns-in-Ok-clause-learns
+returns-in-Ok-clause-learns c = λ _. wire-set c.args.seat.now c.wire.new.seat c.args.e c.args.wire
+    c.requires.seat c.requires.unknown c.in-Ok.ensures
