@@ -1,8 +1,9 @@
 // The cells of chains of boxes, told by texts.
-ghost use Rattle.std.specs.Prelude.{◌+◌, ◌≤◌, IfOk, OnOk, map};
-ghost use Rattle.exec_table.specs.Seats.{IsRootOf, identity_of, sizes_in};
+ghost use Rattle.std.specs.Prelude.{◌≤◌, IfOk, OnOk, map};
+ghost use Rattle.exec_table.specs.Seats.{identity_of};
 ghost use Rattle.node_ends.specs.CellLists.{AreCells};
 ghost use Rattle.node_workers.specs.Ended.{AreStored};
+ghost use Rattle.node_workers.specs.Workers.{HasSpare};
 ghost use Rattle.proc_api.specs.Clauses.{IsFresh};
 ghost use Rattle.proc_api.specs.Reserves.{AreStarting};
 
@@ -108,9 +109,7 @@ pub(crate) fn cells_of(
 ) -> Result<Cells<Box<dyn Processor + Send>>, Fail>
     requires starting { AreStarting builder.reserves (map (λ b. seen b) builder.boxes.items) }
     requires workers { (1 ≤ workers) × (workers ≤ 16) }
-    ensures root { IfOk result (λ c. IsRootOf (identity_of c.table) c.root) }
-    ensures spare { IfOk result
-        (λ c. c.root.seat.me.0.made + workers ≤ (sizes_in c.table).workers) }
+    ensures spare { IfOk result (λ c. HasSpare (identity_of c.table) workers c.root) }
     ensures stored { IfOk result
         (λ c. AreStored (λ b. seen b) (identity_of c.table) c.cells.items) }
     ensures cells { IfOk result (λ c. AreCells (λ b. seen b) (identity_of c.table) c.cells.items) }

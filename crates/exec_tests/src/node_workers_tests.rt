@@ -1,9 +1,9 @@
 // Chains of boxes that workers run over the cells of their nodes: how each node ends and its rows.
-ghost use Rattle.std.specs.Prelude.{◌≡◌, ◌+◌, ◌<◌, ◌≤◌, None, false, IfOk};
+ghost use Rattle.std.specs.Prelude.{◌≡◌, None, false, IfOk};
 ghost use Rattle.exec_laws.specs.declared.edges.NodeStatus.TheVariants.{Over};
-ghost use Rattle.exec_table.specs.Seats.{IsRootOf, identity_of, sizes_in};
+ghost use Rattle.exec_table.specs.Seats.{identity_of};
 ghost use Rattle.exec_tests.specs.EndedCells.{AllLie, Lies};
-ghost use Rattle.node_workers.specs.Ended.{AreStored};
+ghost use Rattle.node_workers.specs.Runs.{MayRunCells};
 
 use crate::chains::{cells_of, chain_of};
 use crate::driven::{halves, show, show_fault};
@@ -86,11 +86,8 @@ fn run_by<R: AllocGlobal + Sync + Threads + Wait>(
     workers: u32,
     queued: usize,
 ) -> Result<Ended<Box<dyn Processor + Send>>, Fail>
-    requires workers { (1 ≤ workers) × (workers ≤ 16) }
-    requires queued { 0 < queued }
-    requires root { IsRootOf (identity_of cells.table) cells.root }
-    requires spare { cells.root.seat.me.0.made + workers ≤ (sizes_in cells.table).workers }
-    requires stored { AreStored (λ b. seen b) (identity_of cells.table) cells.cells.items }
+    requires { MayRunCells (λ b. seen b) (identity_of cells.table) cells.root cells.cells.items
+        workers queued }
     ensures { IfOk result (AllLie (λ b. seen b)) }
 {
     let Cells { table, root, cells } = cells;
@@ -107,11 +104,8 @@ fn show_run<R: AllocGlobal + Sync + Threads + Wait>(
     workers: u32,
     queued: usize,
 ) -> Result<String, Fail>
-    requires workers { (1 ≤ workers) × (workers ≤ 16) }
-    requires queued { 0 < queued }
-    requires root { IsRootOf (identity_of cells.table) cells.root }
-    requires spare { cells.root.seat.me.0.made + workers ≤ (sizes_in cells.table).workers }
-    requires stored { AreStored (λ b. seen b) (identity_of cells.table) cells.cells.items }
+    requires { MayRunCells (λ b. seen b) (identity_of cells.table) cells.root cells.cells.items
+        workers queued }
 {
     match run_by(rt, cells, workers, queued) {
         Ok(ended) => show_nodes(rt.alloc(), ended),

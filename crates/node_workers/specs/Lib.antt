@@ -3,4 +3,4 @@ pub mod Visits
 pub mod Workers
 pub mod Rooms
 pub mod Ended
-pub mod NotStarted
+pub mod Runs

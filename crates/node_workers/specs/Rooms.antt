@@ -6,6 +6,7 @@ use Rattle.std.specs.declared.collections.VecDeque.{VecDeque}
 use Rattle.node_cells.specs.declared.cell.NodeCell.{NodeCell}
 use Rattle.node_workers.specs.declared.named_cell.EndedCell.{EndedCell}
 use Rattle.node_workers.specs.declared.named_cell.NamedCell.{NamedCell}
+use Rattle.node_workers.specs.declared.rooms.EndRooms.{EndRooms}
 use Rattle.node_workers.specs.declared.rooms.Rooms.{Rooms}
 use Rattle.task_queue.specs.Queues.{IsPassOf}
 
@@ -17,15 +18,19 @@ abbrev pub IsDequeFor : ℕ → VecDeque ℕ Global → Type 0
 IsDequeFor n d = (d.items ≡ []) × (n ≤ deque_capacity d)
 
 module _ {P J : Type 0} where
+  -- room for the seats of so many workers and for the cells of so many nodes
+  pub record HasEndRoom (nodes workers : ℕ) (r : EndRooms P J) : Type 0 where
+    pub seats : IsRoomFor workers r.seats
+    pub shelf_seats : IsRoomFor workers r.shelf_seats
+    pub cells : IsRoomFor nodes r.cells
+
   pub record HasRoom (nodes workers : ℕ) (r : Rooms P J) : Type 0 where
     pub pass : IsPassOf r.queue r.pass
     pub others : length r.held.items + 1 ≡ workers
     pub held : All (IsDequeFor nodes) r.held.items
     pub named : IsRoomFor nodes r.named
     pub workers_room : IsRoomFor workers r.workers
-    pub shelf_seats : IsRoomFor workers r.shelf_seats
-    pub seats : IsRoomFor workers r.seats
-    pub ended : IsRoomFor nodes r.ended
+    pub at_end : HasEndRoom nodes workers r.at_end
 
   -- a cell at which nobody stopped the run
   abbrev pub as_named : NodeCell P → NamedCell P J

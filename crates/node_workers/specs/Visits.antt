@@ -1,18 +1,42 @@
 -- What a worker's visit of a node does.
 use Rattle.std.specs.Prelude.{Bool, Err, None, Ok, Option, Result, Some, false, true, ◌≡◌, ◌≢◌}
+use Rattle.atomic_table.specs.Table.{rest}
+use Rattle.atomic_table.specs.declared.shared.Seat.{Seat}
 use Rattle.core_laws.specs.Steps.{nothing}
 use Rattle.core_laws.specs.declared.types.Step.TheVariants as step
 use Rattle.exec_laws.specs.Prelude.{BoxPicture}
 use Rattle.exec_laws.specs.declared.edges.NodeStatus.{NodeStatus}
-use Rattle.exec_table.specs.Seats.{Identity, WorkerDoes}
+use Rattle.exec_table.specs.Seats.{Identity, IsWorkerOf, WorkerDoes}
 use Rattle.exec_table.specs.declared.rule.WorkerSeat.{WorkerSeat}
 use Rattle.node_cells.specs.Visits.{Visits, run_end_of}
 use Rattle.node_cells.specs.declared.cell.NodeCell.{NodeCell}
 use Rattle.node_cells.specs.declared.node_run.RunEnd.{RunEnd}
 use Rattle.node_cells.specs.declared.node_run.RunEnd.TheVariants as run
 use Rattle.node_cells.specs.declared.stop_cause.StopCause.{StopCause}
+use Rattle.task_queue.specs.Queues.{IsPassOf}
+use Rattle.task_queue.specs.Tasks.{OffersNumbers}
 use Rattle.task_queue.specs.declared.queue.TaskQueue.{TaskQueue}
+use Rattle.task_queue.specs.declared.seat.Holding.{Holding}
 use Rattle.task_queue.specs.declared.tasks.WorkerTasks.{WorkerTasks}
+
+-- what a worker visits nodes with: its seat of the table, and a pass of the queue
+pub record MayVisit (t : Identity) (q : TaskQueue) (s : WorkerSeat) (tasks : WorkerTasks) : Type 0
+  where
+    pub seat : IsWorkerOf t s
+    pub pass : IsPassOf q tasks.pass
+
+-- it has them still, and offered numbers, which is all that it did with the queue
+pub record HasVisited (t : Identity) (q : TaskQueue) (s : WorkerSeat)
+    (before after : WorkerTasks) : Type 0 where
+  pub seat : IsWorkerOf t s
+  pub pass : IsPassOf q after.pass
+  pub offers : OffersNumbers q before after
+
+-- a seat of the shelf is as it was, but for the value in the slot that it took last
+pub record ChangesFirst {V : Type 0} (old new : Seat (Option V) Holding) : Type 0 where
+  pub table : new.table_id ≡ old.table_id
+  pub view : new.me.0 ≡ old.me.0
+  pub others : rest new.me.1 ≡ rest old.me.1
 
 -- whether the node's device has nothing yet
 abbrev pub is_device_waiting : Result RunEnd StopCause → Bool

@@ -1,14 +1,17 @@
 -- What workers share, and what each has.
-use Rattle.std.specs.Prelude.{ℕ, ◌≡◌, ◌≤◌, ◌⊎◌}
+use Rattle.std.specs.Prelude.{All, List, ℕ, ◌+◌, ◌≡◌, ◌≤◌, ◌⊎◌}
 use Rattle.core_laws.specs.Steps.{seen as tells_seen}
 use Rattle.core_laws.specs.declared.types.Step.TheVariants as step
-use Rattle.exec_table.specs.Seats.{Identity, IsWorkerOf, WorkerDoes, identity_of, seen_of}
+use Rattle.exec_table.specs.Seats.{Identity, IsRootOf, IsWorkerOf, WorkerDoes, identity_of, seen_of}
+use Rattle.exec_table.specs.declared.rule.RootSeat.{RootSeat}
 use Rattle.exec_table.specs.declared.rule.WorkerSeat.{WorkerSeat}
 use Rattle.exec_table.specs.declared.types.Seen.{Seen}
 use Rattle.exec_table.specs.declared.types.Seen.TheVariants.{Stopped, Zero}
 use Rattle.node_workers.specs.declared.worker.Shared.{Shared}
 use Rattle.node_workers.specs.declared.worker.Worker.{Worker}
+use Rattle.task_queue.specs.Numbers.{total_over}
 use Rattle.task_queue.specs.Queues.{IsPassOf}
+use Rattle.task_queue.specs.Rules.{all_shares}
 use Rattle.task_queue.specs.Shelves.{IsIdleSeatOf, parts, places}
 
 -- A worker of the table saw, at a moment, that nothing is pending or that the run was stopped.
@@ -20,6 +23,11 @@ pub record SawEnd (t : Identity) (s : WorkerSeat) : Type 0 where
 pub record WorkerHasEnded (t : Identity) (s : WorkerSeat) : Type 0 where
   pub seat : IsWorkerOf t s
   pub saw : SawEnd t s
+
+-- the root of the table, from which so many workers more may come
+pub record HasSpare (t : Identity) (more : ℕ) (s : RootSeat) : Type 0 where
+  pub root : IsRootOf t s
+  pub spare : s.seat.me.0.made + more ≤ t.sizes.workers
 
 module _ {P J : Type 0} where
   -- the table is the named one, and the places on the shelf are few enough for each to be kept
@@ -41,3 +49,8 @@ module _ {P J : Type 0} where
   -- the worker's share of the shelf
   abbrev pub parts_of : Worker P J → ℕ
   parts_of w = parts w.shelf
+
+  -- workers that share all of the shelf
+  pub record AreWorkersOf (s : Shared P J) (workers : List (Worker P J)) : Type 0 where
+    pub each : All (IsWorkerAt s) workers
+    pub whole : total_over parts_of workers ≡ all_shares

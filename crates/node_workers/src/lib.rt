@@ -23,7 +23,7 @@
 //! - `run.rt`: a run of all cells by so many workers
 //! - `specs/Named.antt`: when a cell fits its place; `specs/Visits.antt`: what a visit does;
 //!   `specs/Workers.antt`: what workers share and have, and when they end; `specs/Ended.antt`: the
-//!   cells before a run and after it
+//!   cells before a run and after it; `specs/Runs.antt`: when a run may be made, and what it gives
 #![tactic(auto)]
 
 mod named_cell;

@@ -1,7 +1,6 @@
 //! The room of a run, all of which is taken before its first step.
-ghost use Rattle.std.specs.Prelude.{◌≡◌, ◌+◌, ◌<◌, ◌≤◌, [], All, IfOk, length, map, vec_capacity};
+ghost use Rattle.std.specs.Prelude.{◌≡◌, ◌<◌, ◌≤◌, [], All, IfOk, length, map, vec_capacity};
 ghost use Rattle.node_workers.specs.Rooms.{HasRoom, IsDequeFor, as_ended, as_named, node_cell};
-ghost use Rattle.task_queue.specs.Queues.{IsPassOf};
 
 use crate::named_cell::{EndedCell, NamedCell, Naming};
 use crate::worker::Worker;
@@ -13,6 +12,14 @@ use std::collections::VecDeque;
 use std::marker::PhantomData;
 use task_queue::{QueuePass, ShelfSeat, TaskQueue};
 
+/// The lists that the end of a run fills.
+#[derive(Drop)]
+pub(crate) struct EndRooms<P: Processor, J: Naming> {
+    pub seats: Vec<WorkerSeat>,
+    pub shelf_seats: Vec<ShelfSeat<NamedCell<P, J>>>,
+    pub cells: Vec<EndedCell<P>>,
+}
+
 /// The queue, and the lists that a run fills.
 #[derive(Drop)]
 pub(crate) struct Rooms<P: Processor, J: Naming> {
@@ -22,9 +29,7 @@ pub(crate) struct Rooms<P: Processor, J: Naming> {
     pub held: Vec<VecDeque<u32>>,
     pub named: Vec<NamedCell<P, J>>,
     pub workers: Vec<Worker<P, J>>,
-    pub shelf_seats: Vec<ShelfSeat<NamedCell<P, J>>>,
-    pub seats: Vec<WorkerSeat>,
-    pub ended: Vec<EndedCell<P>>,
+    pub at_end: EndRooms<P, J>,
 }
 
 /// Takes the room of so many lists, each for the numbers of so many nodes.
@@ -59,9 +64,11 @@ pub(crate) fn make_rooms<P: Processor, J: Naming>(
         held,
         named: Vec::with_capacity(alloc, nodes)?,
         workers: Vec::with_capacity(alloc, workers)?,
-        shelf_seats: Vec::with_capacity(alloc, workers)?,
-        seats: Vec::with_capacity(alloc, workers)?,
-        ended: Vec::with_capacity(alloc, nodes)?,
+        at_end: EndRooms {
+            seats: Vec::with_capacity(alloc, workers)?,
+            shelf_seats: Vec::with_capacity(alloc, workers)?,
+            cells: Vec::with_capacity(alloc, nodes)?,
+        },
     })
 }
 

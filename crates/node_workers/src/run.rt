@@ -1,10 +1,10 @@
 //! A run of all cells by so many workers.
 ghost use Rattle.std.specs.Prelude.{◌≡◌, ◌+◌, ◌<◌, ◌≤◌, All, IfErr, IfOk, length};
-ghost use Rattle.exec_table.specs.Seats.{IsRootOf, identity_of, sizes_in};
-ghost use Rattle.node_workers.specs.Ended.{AreEnded, AreNamed, AreStored, named_by};
-ghost use Rattle.node_workers.specs.NotStarted.{IsAsItWas};
-ghost use Rattle.node_workers.specs.Rooms.{IsDequeFor, IsRoomFor};
-ghost use Rattle.node_workers.specs.Workers.{IsShared, IsWorkerAt, IsWorkerOver, WorkerHasEnded, parts_of};
+ghost use Rattle.exec_table.specs.Seats.{IsRootOf, identity_of};
+ghost use Rattle.node_workers.specs.Ended.{AreNamed, named_by};
+ghost use Rattle.node_workers.specs.Rooms.{HasEndRoom, IsDequeFor, IsRoomFor};
+ghost use Rattle.node_workers.specs.Runs.{IsAsItWas, MayRunCells, RunHasEnded};
+ghost use Rattle.node_workers.specs.Workers.{AreWorkersOf, HasSpare, IsShared, IsWorkerAt, IsWorkerOver, WorkerHasEnded, parts_of};
 ghost use Rattle.task_queue.specs.Numbers.{total_over};
 ghost use Rattle.task_queue.specs.Queues.{IsPassOf};
 ghost use Rattle.task_queue.specs.Rules.{all_shares};
@@ -12,7 +12,7 @@ ghost use Rattle.task_queue.specs.Shelves.{IsIdleSeatOf, parts, places};
 ghost use Rattle.task_queue.specs.Tasks.{OffersNumbers};
 
 use crate::named_cell::{EndedCell, NamedCell, Naming};
-use crate::rooms::{Rooms, end_cells, make_rooms, name_cells, unname_cells};
+use crate::rooms::{EndRooms, Rooms, end_cells, make_rooms, name_cells, unname_cells};
 use crate::worker::{Shared, Worker, run_workers};
 use exec_laws::NodeStatus;
 use exec_table::{ExecTable, RootSeat, WorkerSeat};
@@ -77,16 +77,14 @@ fn next_worker<P: Processor, J: Naming>(
     from: &mut Worker<P, J>,
     held: VecDeque<u32>,
 ) -> Worker<P, J>
-    requires root { IsRootOf (identity_of shared.now.table) root.old }
-    requires spare { root.old.seat.me.0.made < (sizes_in shared.now.table).workers }
+    requires root { HasSpare (identity_of shared.now.table) 1 root.old }
     requires from { IsWorkerAt shared.now from.old }
     requires share { 1 < parts_of from.old }
     requires held { IsDequeFor (places shared.now.shelf) held }
     ensures root { IsRootOf (identity_of shared.now.table) root.new }
     ensures made { root.new.seat.me.0.made ≡ root.old.seat.me.0.made + 1 }
-    ensures from { IsWorkerAt shared.now from.new }
+    ensures from { IsWorkerAt shared.now from.new × (parts_of from.new + 1 ≡ parts_of from.old) }
     ensures worker { IsWorkerAt shared.now result × (parts_of result ≡ 1) }
-    ensures share { parts_of from.new + 1 ≡ parts_of from.old }
 {
     Worker {
         seat: shared.table.worker(root),
@@ -105,16 +103,13 @@ fn make_workers<P: Processor, J: Naming>(
     mut held: Vec<VecDeque<u32>>,
     mut workers: Vec<Worker<P, J>>,
 ) -> Vec<Worker<P, J>>
-    requires root { IsRootOf (identity_of shared.now.table) root.old }
-    requires spare { root.old.seat.me.0.made + length held.items
-        ≤ (sizes_in shared.now.table).workers }
+    requires root { HasSpare (identity_of shared.now.table) (length held.items) root.old }
     requires first { IsWorkerAt shared.now first × (parts_of first ≡ all_shares) }
     requires few { length held.items ≤ 16 }
     requires held { All (IsDequeFor (places shared.now.shelf)) held.items }
     requires room { IsRoomFor (length held.items + 1) workers }
     ensures root { IsRootOf (identity_of shared.now.table) root.new }
-    ensures workers { All (IsWorkerAt shared.now) result.items }
-    ensures whole { total_over parts_of result.items ≡ all_shares }
+    ensures workers { AreWorkersOf shared.now result.items }
     ensures count { length result.items ≡ length held.items + 1 }
 {
     while let Some(held) = held.pop() {
@@ -155,14 +150,6 @@ fn part_workers<P: Processor, J: Naming>(
     workers.destroy_empty();
 }
 
-/// The room that is left once the workers stand and the cells lie on the shelf.
-#[derive(Drop)]
-struct EndRooms<P: Processor, J: Naming> {
-    seats: Vec<WorkerSeat>,
-    shelf_seats: Vec<ShelfSeat<NamedCell<P, J>>>,
-    ended: Vec<EndedCell<P>>,
-}
-
 /// The workers run, and all that they shared is taken back.
 fn run_shared<P: Processor, J: Naming, R: Threads + Wait + Sync>(
     rt: &R,
@@ -173,21 +160,15 @@ fn run_shared<P: Processor, J: Naming, R: Threads + Wait + Sync>(
 ) -> Ended<P>
     requires shared { IsShared J.identity shared }
     requires root { IsRootOf (identity_of shared.table) root }
-    requires workers { All (IsWorkerAt shared) workers.items }
-    requires whole { total_over parts_of workers.items ≡ all_shares }
-    requires seats { IsRoomFor (length workers.items) rooms.seats }
-    requires shelf_seats { IsRoomFor (length workers.items) rooms.shelf_seats }
-    requires ended { IsRoomFor (places shared.shelf) rooms.ended }
-    ensures table { result.table ≡ shared.table }
-    ensures root { IsRootOf (identity_of result.table) result.root }
-    ensures workers { All (WorkerHasEnded (identity_of result.table)) result.workers.items }
-    ensures count { length result.workers.items ≡ length workers.items }
-    ensures ended { AreEnded P.seen J.identity J.named (places shared.shelf) result.cells.items }
+    requires workers { AreWorkersOf shared workers.items }
+    requires rooms { HasEndRoom (places shared.shelf) (length workers.items) rooms }
+    ensures { RunHasEnded P.seen J.identity J.named shared.table (length workers.items)
+        (places shared.shelf) result }
 {
     let EndRooms {
         mut seats,
         mut shelf_seats,
-        ended,
+        cells,
     } = rooms;
     run_workers(rt, &shared, workers.as_mut_slice());
     part_workers(workers, &mut seats, &mut shelf_seats, &shared);
@@ -200,7 +181,7 @@ fn run_shared<P: Processor, J: Naming, R: Threads + Wait + Sync>(
         table,
         root,
         workers: seats,
-        cells: end_cells(shelf.clear(shelf_seats), ended),
+        cells: end_cells(shelf.clear(shelf_seats), cells),
     }
 }
 
@@ -215,18 +196,10 @@ fn run_named<P: Processor, J: Naming, R: Threads + Wait + Sync>(
     queued: usize,
 ) -> Result<Ended<P>, NotStarted<P>>
     requires table { identity_of table ≡ J.identity }
-    requires root { IsRootOf (identity_of table) root }
-    requires workers { (1 ≤ workers) × (workers ≤ 16) }
-    requires queued { 0 < queued }
-    requires spare { root.seat.me.0.made + workers ≤ (sizes_in table).workers }
-    requires stored { AreStored P.seen J.identity cells.items }
+    requires runnable { MayRunCells P.seen (identity_of table) root cells.items workers queued }
     requires named { AreNamed P.seen J.named cells.items }
-    ensures table { IfOk result (λ r. r.table ≡ table) }
-    ensures root { IfOk result (λ r. IsRootOf (identity_of table) r.root) }
-    ensures workers { IfOk result (λ r. All (WorkerHasEnded (identity_of table)) r.workers.items) }
-    ensures count { IfOk result (λ r. length r.workers.items ≡ workers) }
-    ensures ended { IfOk result (λ r.
-        AreEnded P.seen J.identity J.named (length cells.items) r.cells.items) }
+    ensures ok { IfOk result
+        (RunHasEnded P.seen J.identity J.named table workers (length cells.items)) }
     ensures err { IfErr result (λ r. IsAsItWas table root cells r) }
 {
     let Ok(rooms) = make_rooms::<P, J>(alloc, cells.len(), workers as usize, queued) else {
@@ -238,9 +211,7 @@ fn run_named<P: Processor, J: Naming, R: Threads + Wait + Sync>(
         held,
         named,
         workers,
-        shelf_seats,
-        seats,
-        ended,
+        at_end,
     } = rooms;
     let mut tasks = WorkerTasks::new(pass);
     offer_first(rt, &queue, &mut tasks, cells.as_slice());
@@ -263,12 +234,7 @@ fn run_named<P: Processor, J: Naming, R: Threads + Wait + Sync>(
                 is_lying: false,
             };
             let workers = make_workers(&shared, &mut root, first, held, workers);
-            let rooms = EndRooms {
-                seats,
-                shelf_seats,
-                ended,
-            };
-            Ok(run_shared(rt, shared, root, workers, rooms))
+            Ok(run_shared(rt, shared, root, workers, at_end))
         }
     }
 }
@@ -287,17 +253,9 @@ pub fn run_cells<P: Processor, R: Threads + Wait + Sync>(
     workers: u32,
     queued: usize,
 ) -> Result<Ended<P>, NotStarted<P>>
-    requires root { IsRootOf (identity_of table) root }
-    requires workers { (1 ≤ workers) × (workers ≤ 16) }
-    requires queued { 0 < queued }
-    requires spare { root.seat.me.0.made + workers ≤ (sizes_in table).workers }
-    requires stored { AreStored P.seen (identity_of table) cells.items }
-    ensures table { IfOk result (λ r. r.table ≡ table) }
-    ensures root { IfOk result (λ r. IsRootOf (identity_of table) r.root) }
-    ensures workers { IfOk result (λ r. All (WorkerHasEnded (identity_of table)) r.workers.items) }
-    ensures count { IfOk result (λ r. length r.workers.items ≡ workers) }
-    ensures ended { IfOk result (λ r. AreEnded P.seen (identity_of table)
-        (named_by P.seen cells.items) (length cells.items) r.cells.items) }
+    requires { MayRunCells P.seen (identity_of table) root cells.items workers queued }
+    ensures ok { IfOk result (RunHasEnded P.seen (identity_of table) (named_by P.seen cells.items)
+        table workers (length cells.items)) }
     ensures err { IfErr result (λ r. IsAsItWas table root cells r) }
 {
     run_named::<P, Brand, R>(rt, alloc, table, root, cells, workers, queued)

@@ -4,9 +4,7 @@ ghost use Rattle.core_laws.specs.Steps.{nothing};
 ghost use Rattle.core_laws.specs.declared.types.Step.TheVariants as step;
 ghost use Rattle.exec_table.specs.Seats.{IsWorkerOf, WorkerDoes, identity_of};
 ghost use Rattle.node_cells.specs.Stops.{stop_of};
-ghost use Rattle.task_queue.specs.Queues.{IsPassOf};
-ghost use Rattle.task_queue.specs.Tasks.{OffersNumbers};
-ghost use Rattle.node_workers.specs.Visits.{Stops, VisitsCell, is_device_waiting, is_to_queue};
+ghost use Rattle.node_workers.specs.Visits.{HasVisited, MayVisit, Stops, VisitsCell, is_device_waiting, is_to_queue};
 
 use crate::named_cell::{NamedCell, Naming};
 use exec_table::{ExecTable, WorkerSeat};
@@ -55,12 +53,9 @@ pub fn visit_cell<P: Processor, J: Naming, R: Wait>(
     named: &mut NamedCell<P, J>,
 ) -> bool
     requires table { identity_of table.now ≡ J.identity }
-    requires seat { IsWorkerOf (identity_of table.now) seat.old }
-    requires pass { IsPassOf queue.now tasks.old.pass }
+    requires worker { MayVisit (identity_of table.now) queue.now seat.old tasks.old }
     requires fits { ⟦<NamedCell<P, J> as Placed>⟧.fits named.old named.old.cell.seat.node }
-    ensures seat { IsWorkerOf (identity_of table.now) seat.new }
-    ensures pass { IsPassOf queue.now tasks.new.pass }
-    ensures offers { OffersNumbers queue.now tasks.old tasks.new }
+    ensures worker { HasVisited (identity_of table.now) queue.now seat.new tasks.old tasks.new }
     ensures fits { ⟦<NamedCell<P, J> as Placed>⟧.fits named.new named.old.cell.seat.node }
     ensures stops { Stops (identity_of table.now) seat.old named.old.stopped named.new.stopped }
     ensures visits { VisitsCell P.seen (identity_of table.now) queue.now named.old.stopped

@@ -1,10 +1,9 @@
 //! A worker, from its first number to its end, and all workers beside each other.
-ghost use Rattle.std.specs.Prelude.{◌≡◌, ◌<◌, ◌≤◌, All};
-ghost use Rattle.atomic_table.specs.Table.{rest};
-ghost use Rattle.exec_table.specs.Seats.{IsWorkerOf, identity_of};
+ghost use Rattle.std.specs.Prelude.{◌≡◌, ◌<◌, All};
+ghost use Rattle.exec_table.specs.Seats.{identity_of};
+ghost use Rattle.node_workers.specs.Visits.{ChangesFirst, HasVisited, MayVisit};
 ghost use Rattle.node_workers.specs.Workers.{IsShared, IsWorkerAt, IsWorkerOver, parts_of};
 ghost use Rattle.task_queue.specs.Numbers.{total_over};
-ghost use Rattle.task_queue.specs.Queues.{IsPassOf};
 ghost use Rattle.task_queue.specs.Shelves.{IsIdleSeatOf, parts, places};
 ghost use Rattle.task_queue.specs.Steps.{LiesFirst};
 ghost use Rattle.task_queue.specs.Tasks.{OffersNumbers};
@@ -75,17 +74,13 @@ fn visit_slot<P: Processor, J: Naming, R: Wait>(
     n: u32,
 ) -> bool
     requires shared { IsShared J.identity shared.now }
-    requires seat { IsWorkerOf (identity_of shared.now.table) seat.old }
-    requires pass { IsPassOf shared.now.queue tasks.old.pass }
+    requires worker { MayVisit (identity_of shared.now.table) shared.now.queue seat.old tasks.old }
     requires place { place.old.table_id ≡ shared.now.shelf.table.shared.table_id }
     requires lies { LiesFirst ⟦<NamedCell<P, J> as Placed>⟧.fits n place.old.me }
-    ensures seat { IsWorkerOf (identity_of shared.now.table) seat.new }
-    ensures pass { IsPassOf shared.now.queue tasks.new.pass }
-    ensures offers { OffersNumbers shared.now.queue tasks.old tasks.new }
-    ensures place { place.new.table_id ≡ place.old.table_id }
+    ensures worker { HasVisited (identity_of shared.now.table) shared.now.queue seat.new tasks.old
+        tasks.new }
+    ensures place { ChangesFirst place.old place.new }
     ensures lies { LiesFirst ⟦<NamedCell<P, J> as Placed>⟧.fits n place.new.me }
-    ensures view { place.new.me.0 ≡ place.old.me.0 }
-    ensures others { rest place.new.me.1 ≡ rest place.old.me.1 }
 {
     let slot = place.slot_mut(&shared.shelf.table.shared, n as usize);
     match slot {
@@ -104,13 +99,11 @@ fn visit_in_place<P: Processor, J: Naming, R: Wait>(
     n: u32,
 ) -> bool
     requires shared { IsShared J.identity shared.now }
-    requires seat { IsWorkerOf (identity_of shared.now.table) seat.old }
-    requires pass { IsPassOf shared.now.queue tasks.old.pass }
+    requires worker { MayVisit (identity_of shared.now.table) shared.now.queue seat.old tasks.old }
     requires shelf { IsIdleSeatOf shared.now.shelf shelf.old }
     requires place { n < places shared.now.shelf }
-    ensures seat { IsWorkerOf (identity_of shared.now.table) seat.new }
-    ensures pass { IsPassOf shared.now.queue tasks.new.pass }
-    ensures offers { OffersNumbers shared.now.queue tasks.old tasks.new }
+    ensures worker { HasVisited (identity_of shared.now.table) shared.now.queue seat.new tasks.old
+        tasks.new }
     ensures shelf { IsIdleSeatOf shared.now.shelf shelf.new }
     ensures parts { parts shelf.new ≡ parts shelf.old }
 {

@@ -1,10 +1,10 @@
 -- The ends of a run by workers of a graph without reserves, in which no node is born.
-use Rattle.pipeline_exec.proofs.Words.{AreAllBorn as AreNamedBorn, AreBirths, AreStarting, Bool, BoxPicture, ExecEndHolds, EndsBadly, ExecEnd, GivenBack, GivesBox, GrowthFlaw, IsBorn, IsTrue, IfNone, IfSome, List, None, Option, SameBox, Some, Wire, WorkFault, [], ap, append-nil, arith, at-node, box_at, cases_lt, cond, false, get_or, get_or-eq_default, get_or-set_other, get_or-set_same, inl, inr, keeps-gives, keeps-itself, length, length-map, length-set, map, nat_lt, no_box, not-blank, refl, set, subst, sym, true, ℕ, ◌<◌, ◌∙◌, ◌≡◌, ◌≢◌}
+use Rattle.pipeline_exec.proofs.Words.{AreAllBorn as AreNamedBorn, AreBirths, AreStarting, Bool, BoxPicture, ExecEndHolds, EndsBadly, ExecEnd, GivenBack, GivesBox, GrowthFlaw, IsBorn, IsTrue, IfNone, IfSome, List, None, Option, SameBox, Some, Wire, WorkFault, [], ap, append-nil, arith, at-node, box_at, cases_lt, cond, false, get_or, get_or-eq_default, get_or-set_other, get_or-set_same, inl, inr, keeps-gives, keeps-itself, length, length-map, length-set, map, nat_lt, no_box, not-blank, refl, set, subst, sym, true, ℕ, ◌<◌, ◌≤◌, ◌∙◌, ◌≡◌, ◌≢◌}
 use Rattle.atomic_table.proofs.Lists.{at_index, at_map}
 use Rattle.exec_laws.specs.declared.growth.GrowthFlaw.TheVariants as flaw
 use Rattle.exec_table.specs.Seats.{Identity, identity_of}
 use Rattle.node_cells.specs.Stops.{GrowthStays}
-use Rattle.node_cells.specs.Stored.{IsKept, IsStored, StoredAs}
+use Rattle.node_cells.specs.Stored.{AwaitsBirth, IsStored, StoredAs}
 use Rattle.node_cells.specs.Visits.{LiesAs}
 use Rattle.node_cells.specs.declared.cell.NodeCell.{NodeCell}
 use Rattle.node_cells.specs.declared.stop_cause.StopCause.{StopCause}
@@ -14,7 +14,7 @@ use Rattle.node_ends.proofs.Boxes.{AreAllBorn, given-both, growths-both, stops-b
 use Rattle.node_ends.proofs.CellChanges.{all-born}
 use Rattle.node_ends.proofs.NewCells.{new-cells}
 use Rattle.node_workers.proofs.NewCells.{new-stored}
-use Rattle.node_workers.specs.Ended.{AreEnded, AreStored, named_by}
+use Rattle.node_workers.specs.Ended.{AreEnded, named_by}
 use Rattle.std.proofs.lemmas.Simd.{map-map}
 use Rattle.node_ends.proofs.Lists.{below, read-map, there}
 use Rattle.node_ends.specs.CellLists.{AreCells, IsCellOf, boxes_in}
@@ -22,6 +22,7 @@ use Rattle.node_ends.specs.RunEnds.{GrowthsStay, NodesEndHolds as CellsEndHolds,
 use Rattle.node_ends.specs.declared.node_ends.NodesEnd.{NodesEnd}
 use Rattle.node_ends.specs.declared.node_ends.NodesEnd.TheVariants as nodes_end
 use Rattle.node_workers.specs.Named.{CellFits}
+use Rattle.node_workers.specs.Runs.{MayRunCells}
 use Rattle.node_workers.specs.declared.named_cell.EndedCell.{EndedCell}
 use Rattle.pipeline_exec.specs.Ends.{Begun, IsFaultEnd}
 use Rattle.pipeline_exec.specs.WorkerRuns.{AreUnrun, AreUnstopped, BeginsAs, IsEndOf, IsStoppedAt, cell_of, processor_of}
@@ -246,7 +247,7 @@ module _ {P : Type 0} (seen : P → BoxPicture) (t : Identity) (old : List (Node
             stored = stored;
             born = λ unborn.
                 let born = all-born seen t old all n (rw length-map lt) in
-                let kept : IsKept seen t d.cell =
+                let kept : AwaitsBirth seen t d.cell =
                 subst (λ z. StoredAs seen t z d.cell) unborn stored in
                 not-blank (seen d.cell.processor).spec
                 (rw (h.2.box.born born).same.spec born) kept.blank;
@@ -331,8 +332,18 @@ module _ {P : Type 0} (seen : P → BoxPicture) (workers : ℕ) (c : Cells P)
   pub unrun-cells : AreCells seen (identity_of c.table) c.cells.items
   unrun-cells = new-cells seen u.boxes u.wires [] workers c u.graph refl u.new
 
-  pub unrun-stored : AreStored seen (identity_of c.table) c.cells.items
-  unrun-stored = new-stored seen u.boxes u.wires [] workers c u.graph u.new
+  pub unrun-runnable : (queued : ℕ) → 1 ≤ workers → workers ≤ 16 → 0 < queued
+      → MayRunCells seen (identity_of c.table) c.root c.cells.items workers queued
+  unrun-runnable queued one most room = record {
+    some_workers = one;
+    few_workers = most;
+    some_room = room;
+    spare = record {
+      root = u.new.root;
+      spare = rw (u.new.none_made, u.new.key) (omega arith);
+    };
+    stored = new-stored seen u.boxes u.wires [] workers c u.graph u.new;
+  }
 
   pub unrun-starting : AreStarting [] (boxes_in seen c.cells.items)
   unrun-starting = subst (AreStarting []) (sym (ap (map seen) u.new.processors)

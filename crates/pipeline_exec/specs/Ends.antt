@@ -1,6 +1,7 @@
 -- The ends of a run.
 use Rattle.pipeline_exec.specs.Prelude.{AreAllBorn, AreBirths, Birth, BoxPicture, ExecEnd, GrowthFlaw, IsBadGrowth, IsDone, IsFault, IsGraph, IsStuck, Reserve, SameBox, Wire, WorkFault, box_at, grown_ranks, grown_wires}
-use Rattle.std.specs.Prelude.{IsTrue, List, None, [], ℕ, ⊤, ◌≡◌, ◌≢◌}
+use Rattle.std.specs.Prelude.{IsTrue, List, None, [], length, ℕ, ⊤, ◌≡◌, ◌≢◌}
+use Rattle.proc_api.specs.Reserves.{AreReserves, AreStarting}
 use Rattle.proc_api.specs.declared.status.WorkFault.TheVariants as fault
 use Rattle.pipeline_exec.specs.declared.run.ExecEnd.TheVariants as end
 
@@ -10,6 +11,19 @@ pub record Begun : Type 0 where
   pub wires : List Wire
   pub reserves : List Reserve
   pub boxes : List BoxPicture
+
+-- the graph of these parts
+abbrev pub graph_of_boxes : List ℕ → List Wire → List Reserve → List BoxPicture → Begun
+graph_of_boxes ranks wires reserves boxes =
+    record { ranks = ranks; wires = wires; reserves = reserves; boxes = boxes }
+
+-- a graph with so many boxes that may be run: those that are kept for growth are blank, and each
+-- other one is as it was loaded
+pub record IsStartingGraph (nodes : ℕ) (b : Begun) : Type 0 where
+  pub graph : IsGraph b.ranks b.wires b.reserves
+  pub one_each : nodes ≡ length b.ranks
+  pub reserves_fit : AreReserves (length b.ranks) (length b.wires) b.wires b.reserves
+  pub starting : AreStarting b.reserves b.boxes
 
 -- the graph has grown, and this is true of the wires then
 pub record HasGrown (b : Begun) (boxes : List BoxPicture) (P : List Wire → Type 0) : Type 0 where

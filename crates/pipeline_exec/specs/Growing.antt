@@ -1,9 +1,9 @@
 -- How a graph grows, as the executor's code does it.
 use Rattle.chunk_data.specs.Places.{AreOnce}
-use Rattle.pipeline_exec.specs.Prelude.{AreAllBorn, AreBirths, AreEdgesOf, AsksToGrow, Birth, Blank, CellPicture, GivesBox, Grew, GrowNode, GrowthFlaw, GrowthForm, HoldsGraph, IsBorn, IsNewNode, KeepsFault, Left, Loads, NodeStatus, Reserve, RoundEnd, RoundPorts, Spec, SpecForm, StaysBox, Wire, WorkFault, after_grow, boxes_of, cell_at, form_at, grown_ranks, grown_wires, growth_flaw, holds_node, in_count, input_count, new_edge, out_count, output_count, reserve_of, spec_form, wired_by}
-use Rattle.pipeline_exec.specs.Cells.{AreNewRoundPorts, ChangesCell, ExecutorPicture, FailsAt, IsUnderWay}
+use Rattle.pipeline_exec.specs.Prelude.{AreAllBorn, AreBirths, AreEdgesOf, AsksToGrow, Birth, Blank, CellPicture, ExecutorState, GivesBox, Grew, GrowNode, GrowthFlaw, GrowthForm, HoldsGraph, IsBorn, IsNewNode, KeepsFault, Left, Loads, NodeStatus, Reserve, RoundEnd, RoundPorts, Spec, SpecForm, StaysBox, Wire, WorkFault, after_grow, boxes_of, cell_at, form_at, grown_ranks, grown_wires, growth_flaw, holds_node, in_count, input_count, new_edge, out_count, output_count, reserve_of, spec_form, wired_by}
+use Rattle.pipeline_exec.specs.Cells.{AreNewEdges, AreNewFrom, AreNewRoundPorts, ChangesCell, ExecutorPicture, FailsAt, IsUnderWay}
 use Rattle.pipeline_exec.specs.Ends.{Begun}
-use Rattle.std.specs.Prelude.{Bool, List, None, Some, [], cond, false, length, map, replicate, slice_index_or, slice_set, suc, true, zero, ℕ, ◌++◌, ◌+◌, ◌-◌, ◌<◌, ◌∷◌, ◌≡◌, ◌≢◌, ◌≤◌}
+use Rattle.std.specs.Prelude.{Bool, List, None, Some, [], cond, false, length, map, replicate, slice_index_or, slice_set, suc, true, vec_capacity, zero, ℕ, ◌++◌, ◌+◌, ◌-◌, ◌<◌, ◌∷◌, ◌≡◌, ◌≢◌, ◌≤◌}
 use Rattle.exec_laws.specs.declared.edges.NodeStatus.TheVariants as node
 use Rattle.pipeline_exec.specs.declared.births.RoundEnd.TheVariants as round
 
@@ -205,6 +205,17 @@ RoundEndHolds round.Memory b d = GivesBoxes b.cells d.cells
 abbrev pub are_left : List Reserve → ℕ → List ℕ
 are_left reserves zero = []
 are_left reserves (suc n) = are_left reserves n ++ (reserve_of reserves n).edges ∷ []
+
+-- the state of a graph of so many nodes that has no cells yet, but room for them, with new edges,
+-- and the new ports of all nodes
+pub record IsNewState {P : Type 0} (nodes : ℕ) (ports : List RoundPorts) (s : ExecutorState P)
+    : Type 0 where
+  pub no_cells : s.cells.items ≡ []
+  pub room : nodes ≤ vec_capacity s.cells
+  pub one_each : length ports ≡ nodes
+  pub new_ports : AreNewFrom s.reserves s.wires 0 ports
+  pub new_edges : AreNewEdges (length s.wires) s.edges.items
+  pub left : s.left.items ≡ are_left s.reserves nodes
 
 abbrev pub begun : ExecutorPicture → Begun
 begun b =

@@ -1,10 +1,9 @@
-ghost use Rattle.std.specs.Prelude.{◌≡◌, ◌<◌, ◌≤◌, length, map, vec_capacity, []};
-ghost use Rattle.proc_api.specs.Graphs.{IsGraph};
-ghost use Rattle.proc_api.specs.Reserves.{AreReserves, AreStarting};
+ghost use Rattle.std.specs.Prelude.{◌≡◌, ◌≤◌, length, map, vec_capacity, []};
+ghost use Rattle.proc_api.specs.Reserves.{AreStarting};
 ghost use Rattle.exec_laws.specs.Ends.{GivenBack, IsNothingDue, boxes_of};
-ghost use Rattle.pipeline_exec.specs.Cells.{AreNewEdges, AreNewFrom, IsUnderWay, board_of, cells_of};
-ghost use Rattle.pipeline_exec.specs.Ends.{EndsSettled, ExecEndHolds, IsFaultEnd};
-ghost use Rattle.pipeline_exec.specs.Growing.{GivesBoxes, are_left, begun};
+ghost use Rattle.pipeline_exec.specs.Cells.{IsUnderWay, board_of, cells_of};
+ghost use Rattle.pipeline_exec.specs.Ends.{EndsSettled, ExecEndHolds, IsFaultEnd, IsStartingGraph, graph_of_boxes};
+ghost use Rattle.pipeline_exec.specs.Growing.{GivesBoxes, IsNewState, are_left, begun};
 
 use crate::births::RoundEnd;
 use crate::cell::{Cell, RoundPorts};
@@ -55,14 +54,8 @@ pub fn run_graph<R: AllocGlobal + Threads + Wait + Sync>(
     requires starting { AreStarting graph.reserves (map (λ b. seen b) graph.boxes.items) }
     ensures back { GivenBack (map (λ b. seen b) graph.boxes.items)
         (map (λ b. seen b) result.boxes.items) }
-    ensures end { ExecEndHolds result.end (record {
-      ranks = graph.ranks;
-      wires = graph.wires;
-      reserves =
-          graph.reserves;
-      boxes = map (λ b. seen b) graph.boxes.items;
-    })
-        (map (λ b. seen b) result.boxes.items) }
+    ensures end { ExecEndHolds result.end (graph_of_boxes graph.ranks graph.wires graph.reserves
+        (map (λ b. seen b) graph.boxes.items)) (map (λ b. seen b) result.boxes.items) }
 {
     // Growth isn't on the port-driven workers yet.
     if graph.reserves.len() == 0 {
@@ -85,13 +78,8 @@ fn run_by_ports<R: AllocGlobal + Threads + Wait + Sync>(
     requires starting { AreStarting graph.reserves (map (λ b. seen b) graph.boxes.items) }
     ensures back { GivenBack (map (λ b. seen b) graph.boxes.items)
         (map (λ b. seen b) result.boxes.items) }
-    ensures end { ExecEndHolds result.end (record {
-      ranks = graph.ranks;
-      wires = graph.wires;
-      reserves = graph.reserves;
-      boxes = map (λ b. seen b) graph.boxes.items;
-    })
-        (map (λ b. seen b) result.boxes.items) }
+    ensures end { ExecEndHolds result.end (graph_of_boxes graph.ranks graph.wires graph.reserves
+        (map (λ b. seen b) graph.boxes.items)) (map (λ b. seen b) result.boxes.items) }
 {
     let Ok(mut room) = Vec::with_capacity(rt.alloc(), graph.boxes.len()) else {
         return RunResult {
@@ -118,13 +106,8 @@ fn run_in_rounds<R: AllocGlobal + Threads + Sync>(rt: &R, graph: Graph, workers:
     requires starting { AreStarting graph.reserves (map (λ b. seen b) graph.boxes.items) }
     ensures back { GivenBack (map (λ b. seen b) graph.boxes.items)
         (map (λ b. seen b) result.boxes.items) }
-    ensures end { ExecEndHolds result.end (record {
-      ranks = graph.ranks;
-      wires = graph.wires;
-      reserves = graph.reserves;
-      boxes = map (λ b. seen b) graph.boxes.items;
-    })
-        (map (λ b. seen b) result.boxes.items) }
+    ensures end { ExecEndHolds result.end (graph_of_boxes graph.ranks graph.wires graph.reserves
+        (map (λ b. seen b) graph.boxes.items)) (map (λ b. seen b) result.boxes.items) }
 {
     let Graph {
         boxes,
@@ -155,17 +138,12 @@ fn run_boxes<P: Processor, R: Threads + Sync>(
     reserves: List<Reserve>,
     workers: usize,
 ) -> ExecEnd
-    requires graph { IsGraph ranks wires reserves }
-    requires one_each { length boxes.old.items ≡ length ranks }
-    requires reserves { AreReserves (length ranks) (length wires) wires reserves }
-    requires starting { AreStarting reserves (map P.seen boxes.old.items) }
+    requires { IsStartingGraph (length boxes.old.items)
+        (graph_of_boxes ranks wires reserves (map P.seen boxes.old.items)) }
     ensures back { GivenBack (map P.seen boxes.old.items) (map P.seen boxes.new.items) }
-    ensures end { ExecEndHolds result (record {
-      ranks = ranks;
-      wires = wires;
-      reserves = reserves;
-      boxes = map P.seen boxes.old.items;
-    }) (map P.seen boxes.new.items) }
+    ensures end { ExecEndHolds result
+        (graph_of_boxes ranks wires reserves (map P.seen boxes.old.items))
+        (map P.seen boxes.new.items) }
 {
     // Cells and ports are made last, since more is to be dropped with them.
     let edges = match new_edges(alloc, wires.len()) {
@@ -207,27 +185,14 @@ fn run_in_cells<P: Processor, R: Threads + Sync>(
     report: Vec<StuckNode>,
     workers: usize,
 ) -> ExecEnd
-    requires graph { IsGraph state.ranks.items state.wires state.reserves }
-    requires one_each { length boxes.old.items ≡ length state.ranks.items }
-    requires reserves { AreReserves (length state.ranks.items)
-        (length state.wires) state.wires state.reserves }
-    requires starting { AreStarting state.reserves (map P.seen boxes.old.items) }
-    requires ports_len { length ports.items ≡ length boxes.old.items }
-    requires ports { AreNewFrom state.reserves state.wires 0 ports.items }
-    requires edges { AreNewEdges (length state.wires) state.edges.items }
-    requires left { state.left.items ≡ are_left state.reserves (length boxes.old.items) }
-    requires cells { state.cells.items ≡ [] }
-    requires cells_room { length boxes.old.items ≤ vec_capacity state.cells }
+    requires graph { IsStartingGraph (length boxes.old.items) (graph_of_boxes state.ranks.items
+        state.wires state.reserves (map P.seen boxes.old.items)) }
+    requires state { IsNewState (length boxes.old.items) ports.items state }
     requires report { report.items ≡ [] }
     requires report_room { length boxes.old.items ≤ vec_capacity report }
     ensures back { GivenBack (map P.seen boxes.old.items) (map P.seen boxes.new.items) }
-    ensures end { ExecEndHolds result (record {
-      ranks = state.ranks.items;
-      wires = state.wires;
-      reserves =
-          state.reserves;
-      boxes = map P.seen boxes.old.items;
-    }) (map P.seen boxes.new.items) }
+    ensures end { ExecEndHolds result (graph_of_boxes state.ranks.items state.wires state.reserves
+        (map P.seen boxes.old.items)) (map P.seen boxes.new.items) }
 {
     let mut state = state;
     fill_cells(&mut state.cells, boxes, &mut ports);

@@ -16,10 +16,9 @@ loop-held-preserved g c =
     let a = ap length popped in
     let b = length-append c.pop.new.self.items (c.in-Some.held ∷ []) in
     let d = ap length pushed in let e = length-append c.loop-held.workers.items (w ∷ []) in
-    let made = did.made in let share = did.share in let one = did.worker.1 in record {
-      root = did.root;
-      spare = let s = inv.spare in omega arith;
-      first = did.from;
+    let made = did.made in let share = did.from.1 in let one = did.worker.1 in record {
+      root = record { root = did.root; spare = let s = inv.root.spare in omega arith };
+      first = did.from.0;
       whole = let t = total-push parts_of c.loop-held.workers.items w in
           let p = ap (total_over {V = Worker g.row.P.Denot g.row.J.Denot} parts_of) pushed in
           let k = inv.whole in omega arith;
@@ -35,13 +34,10 @@ loop-held-preserved g c =
 
 pub returns-clause-workers : goal.returns-clause-workers
 returns-clause-workers g c =
-    subst (All (IsWorkerAt c.args.shared.now)) (sym c.push_reserved-2.ensures.items)
-    (All-push (IsWorkerAt c.args.shared.now) c.loop-held.workers.items c.loop-held.first
-    c.loop-held.invariant.workers c.loop-held.invariant.first)
-
-pub returns-clause-whole : goal.returns-clause-whole
-returns-clause-whole g c =
-    ap (total_over {V = Worker g.row.P.Denot g.row.J.Denot} parts_of)
-    c.push_reserved-2.ensures.items
-    ∙ (total-push parts_of c.loop-held.workers.items c.loop-held.first
-    ∙ c.loop-held.invariant.whole)
+    let inv = c.loop-held.invariant in let pushed = c.push_reserved-2.ensures.items in record {
+      each = subst (All (IsWorkerAt c.args.shared.now)) (sym pushed)
+          (All-push (IsWorkerAt c.args.shared.now) c.loop-held.workers.items c.loop-held.first
+          inv.workers inv.first);
+      whole = ap (total_over {V = Worker g.row.P.Denot g.row.J.Denot} parts_of) pushed
+          ∙ (total-push parts_of c.loop-held.workers.items c.loop-held.first ∙ inv.whole);
+    }

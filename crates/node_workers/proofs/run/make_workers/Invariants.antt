@@ -1,7 +1,7 @@
 use Rattle.std.proofs.Common.{All, length, vec_capacity, ◌+◌, ◌≡◌, ◌≤◌}
-use Rattle.exec_table.specs.Seats.{IsRootOf, identity_of, sizes_in}
+use Rattle.exec_table.specs.Seats.{identity_of}
 use Rattle.node_workers.specs.Rooms.{IsDequeFor}
-use Rattle.node_workers.specs.Workers.{IsWorkerAt, parts_of}
+use Rattle.node_workers.specs.Workers.{HasSpare, IsWorkerAt, parts_of}
 use Rattle.task_queue.specs.Numbers.{total_over}
 use Rattle.task_queue.specs.Rules.{all_shares}
 use Rattle.task_queue.specs.Shelves.{places}
@@ -9,8 +9,7 @@ use Rattle.node_workers.proofs.run.make_workers.Given as goal
 
 abbrev pub invariant-loop-held : goal.invariant-loop-held
 invariant-loop-held g l = record {
-  root : IsRootOf (identity_of l.shared.table) l.root;
-  spare : l.root.seat.me.0.made + length l.held.items ≤ (sizes_in l.shared.table).workers;
+  root : HasSpare (identity_of l.shared.table) (length l.held.items) l.root;
   first : IsWorkerAt l.shared l.first;
   whole : total_over parts_of l.workers.items + parts_of l.first ≡ all_shares;
   parts : parts_of l.first + length l.workers.items ≡ all_shares;

@@ -1,4 +1,4 @@
-use Rattle.std.proofs.Common.{subst, sym}
+use Rattle.std.proofs.Common.{inl, subst, sym}
 use Rattle.task_queue.proofs.KeptNumbers.{offers-none}
 use Rattle.task_queue.specs.Queues.{IsPassOf}
 use Rattle.task_queue.specs.Tasks.{OffersNumbers, offered_more}
@@ -15,7 +15,7 @@ loop-n-preserved g c = elim c.if-eq.branch [
       IsPassOf c.args.queue.now t.pass × OffersNumbers c.args.queue.now c.args.tasks.now t)
       (sym w.tasks-is) (
         w.offer.ensures.pass,
-        (_, offered_more c.loop-n.invariant.1.1 w.offer.ensures.offered),
+        (_, offered_more c.loop-n.invariant.1.1 (inl w.offer.ensures.offered)),
       )
   | else-eq w ↦ subst (λ (t : WorkerTasks).
       IsPassOf c.args.queue.now t.pass × OffersNumbers c.args.queue.now c.args.tasks.now t)

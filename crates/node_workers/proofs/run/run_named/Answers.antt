@@ -1,11 +1,9 @@
 use Rattle.std.proofs.Common.{All, ap, length, map, refl, subst, sym, ◌∙◌, ℕ}
 use Rattle.std.proofs.lemmas.List.{length-map}
-use Rattle.exec_table.specs.Seats.{identity_of}
-use Rattle.exec_table.specs.declared.rule.ExecTable.{ExecTable}
 use Rattle.node_workers.proofs.EndLaws.{node_cells-named, stored-fit}
+use Rattle.node_workers.specs.Ended.{AreStored}
 use Rattle.node_workers.specs.Named.{CellFits}
 use Rattle.node_workers.specs.Rooms.{IsDequeFor, as_named, node_cell}
-use Rattle.node_workers.specs.Workers.{WorkerHasEnded}
 use Rattle.node_workers.specs.declared.named_cell.NamedCell.{NamedCell}
 use Rattle.task_queue.specs.Values.{AllFit}
 use Rattle.node_workers.proofs.run.run_named.Goals as goal
@@ -16,7 +14,8 @@ make-requires-clause-fit g c κs within =
     CellFits g.J.Naming.identity g.J.Naming.named g.P.Processor.seen n d.cell d.stopped))
     (sym c.name_cells.ensures.named)
     (stored-fit g.P.Processor.seen g.J.Naming.identity g.J.Naming.named c.args.cells.items
-    c.requires.stored c.requires.named)
+    (subst (λ t. AreStored g.P.Processor.seen t c.args.cells.items) c.requires.table
+    c.requires.runnable.stored) c.requires.named)
 
 pub make_workers-workers-requires-clause-held : goal.make_workers-workers-requires-clause-held
 make_workers-workers-requires-clause-held g c κs within =
@@ -33,9 +32,3 @@ returns-in-Err-clause-err g c = record {
       ∙ (ap (map node_cell) (c.in-Err.ensures.err ∙ c.name_cells.ensures.named)
       ∙ node_cells-named g.row.J.Denot c.args.cells.items);
 }
-
-pub returns-in-Ok-make-clause-workers : goal.returns-in-Ok-make-clause-workers
-returns-in-Ok-make-clause-workers g c =
-    subst (λ (t : ExecTable). All (WorkerHasEnded (identity_of t))
-    c.run_shared.result.workers.items)
-    c.run_shared.ensures.table c.run_shared.ensures.workers

@@ -1,4 +1,4 @@
-use Rattle.std.proofs.Common.{All, ap, drop, length, subst, sym, take, ℕ, ◌++◌, ◌∙◌}
+use Rattle.std.proofs.Common.{All, ap, drop, length, refl, subst, sym, take, ℕ, ◌++◌, ◌∙◌}
 use lib.Seq.{take-append_seam}
 use Rattle.node_workers.proofs.EndLaws.{cleared-ended}
 use Rattle.node_workers.specs.Ended.{AreEnded}
@@ -16,7 +16,7 @@ clear-requires-after_bounds g c κs within =
           (sym (c.run_workers.auto.workers ∙ c.as_mut_slice.ensures.len))
           ∙ take-append_seam now left)
           ∙ (c.run_workers.ensures.parts
-          ∙ (ap sum c.as_mut_slice.ensures.value ∙ c.requires.whole))),
+          ∙ (ap sum c.as_mut_slice.ensures.value ∙ c.requires.workers.whole))),
       c.part_workers.ensures.idle,
     )
 
@@ -27,17 +27,19 @@ part_workers-requires-clause-workers g c κs within =
     (sym (c.run_workers.auto.workers ∙ c.as_mut_slice.ensures.len)) ∙ take-append_seam now left))
     c.run_workers.ensures.workers
 
-pub returns-clause-count : goal.returns-clause-count
-returns-clause-count g c =
+pub returns : goal.returns
+returns g c =
     let now = c.run_workers.new.workers in let left = drop (length now) c.args.workers.items in
-    let many = c.run_workers.auto.workers ∙ c.as_mut_slice.ensures.len in
-    c.part_workers.ensures.count
-    ∙ (ap length (ap (λ (n : ℕ). take n (now ++ left)) (sym many) ∙ take-append_seam now left)
-    ∙ (many ∙ c.args.workers.ok.0))
-
-pub returns-clause-ended : goal.returns-clause-ended
-returns-clause-ended g c = subst
-    (AreEnded g.P.Processor.seen g.J.Naming.identity g.J.Naming.named (places c.args.shared.shelf))
-    (sym c.end_cells.ensures)
-    (cleared-ended g.P.Processor.seen g.J.Naming.identity g.J.Naming.named
-    (places c.args.shared.shelf) c.clear.result.items c.clear.ensures.count c.clear.ensures.fit)
+    let many = c.run_workers.auto.workers ∙ c.as_mut_slice.ensures.len in record {
+      same_table = refl;
+      root_of = c.requires.root;
+      seats = c.part_workers.ensures.seats;
+      one_each = c.part_workers.ensures.count
+          ∙ (ap length (ap (λ (n : ℕ). take n (now ++ left)) (sym many)
+          ∙ take-append_seam now left) ∙ (many ∙ c.args.workers.ok.0));
+      ended = subst (AreEnded g.P.Processor.seen g.J.Naming.identity g.J.Naming.named
+          (places c.args.shared.shelf)) (sym c.end_cells.ensures)
+          (cleared-ended g.P.Processor.seen g.J.Naming.identity g.J.Naming.named
+          (places c.args.shared.shelf) c.clear.result.items c.clear.ensures.count
+          c.clear.ensures.fit);
+    }

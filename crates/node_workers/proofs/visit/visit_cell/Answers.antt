@@ -5,8 +5,12 @@ use Rattle.node_workers.specs.Visits.{is_to_queue}
 use Rattle.task_queue.proofs.KeptNumbers.{offers-none}
 use Rattle.node_workers.proofs.visit.visit_cell.Goals as goal
 
-pub returns-in-Some-clause-offers : goal.returns-in-Some-clause-offers
-returns-in-Some-clause-offers g c = offers-none _ _
+pub returns-in-Some-clause-worker : goal.returns-in-Some-clause-worker
+returns-in-Some-clause-worker g c = record {
+  seat = c.requires.worker.seat;
+  pass = c.requires.worker.pass;
+  offers = offers-none _ _;
+}
 
 pub returns-clause-fits : goal.returns-clause-fits
 returns-clause-fits g c = let ran = c.visit_node-ran.ensures in

@@ -1,4 +1,4 @@
-use Rattle.std.proofs.Common.{None, Some, ap, arith, map, subst, sym, ◌∙◌, ◌∷◌}
+use Rattle.std.proofs.Common.{Some, ap, arith, sym, ◌∙◌, ◌∷◌}
 use Rattle.atomic_table.specs.Table.{rest}
 use Rattle.task_queue.proofs.Counts.{times-taken_and_left}
 use Rattle.task_queue.specs.Numbers.{once_below, times, without_each}
@@ -18,8 +18,8 @@ visit_slot-waits-requires-clause-lies g c κs lives = let took = c.claim.ensures
 pub invariant_of-shelf : goal.invariant_of-shelf
 invariant_of-shelf g c =
     let was = c.args.shelf.now in let took = c.claim.ensures.taken.seat in
-    let visited = c.visit_slot-waits.ensures in let left = c.release.ensures.left in
-    let id = c.release.ensures.same ∙ visited.place ∙ c.claim.ensures.same in record {
+    let visited = c.visit_slot-waits.ensures.place in let left = c.release.ensures.left in
+    let id = c.release.ensures.same ∙ visited.table ∙ c.claim.ensures.same in record {
       slots = ap (λ m. m.1) left ∙ visited.others ∙ ap (λ m. rest m.1) took ∙ was.slots;
       once = λ m. let i = ap (λ t. once_below m t.slots) id in let o = was.once m in omega arith;
       known = λ m. ap (λ x. times m x.0.held) left

@@ -3,7 +3,7 @@ use Rattle.exec_laws.specs.Ends.{GivenBack}
 use Rattle.exec_table.specs.Seats.{identity_of, sizes_in}
 use Rattle.node_ends.specs.CellLists.{AreCells, boxes_in}
 use Rattle.node_ends.specs.RunEnds.{NodesEndHolds as CellsEndHolds}
-use Rattle.pipeline_exec.proofs.WorkerEnds.{cells-end, moved, moved-back, run-ended, same-count, stops-within, unrun-cells, unrun-starting, unrun-stored, unstopped-cells}
+use Rattle.pipeline_exec.proofs.WorkerEnds.{cells-end, moved, moved-back, run-ended, same-count, stops-within, unrun-cells, unrun-runnable, unrun-starting, unstopped-cells}
 use Rattle.pipeline_exec.specs.WorkerRuns.{processor_of}
 use Rattle.std.proofs.Common.{IfNone}
 use Rattle.pipeline_exec.proofs.worker_run.run_new_cells.Goals as goal
@@ -18,25 +18,25 @@ returns-in_default-with_capacity-clause-back g c = moved-back g.P.Processor.seen
     c.args.new.cells.items c.give_boxes-in_default-with_capacity.new.boxes.items
     c.give_boxes-in_default-with_capacity.ensures
 
-pub run_cells-requires-clause-stored : goal.run_cells-requires-clause-stored
-run_cells-requires-clause-stored g c κs within =
-    unrun-stored g.P.Processor.seen c.args.workers c.args.new c.requires.unrun
+pub run_cells-requires-after_bounds : goal.run_cells-requires-after_bounds
+run_cells-requires-after_bounds g c κs within = unrun-runnable g.P.Processor.seen c.args.workers
+    c.args.new c.requires.unrun _ c.requires.some_workers c.requires.few_workers (omega arith)
 
 pub end_cells-end-requires-clause-in_range : goal.end_cells-end-requires-clause-in_range
 end_cells-end-requires-clause-in_range g c κs within = stops-within g.P.Processor.seen
     (identity_of c.args.new.table) c.args.new.cells.items c.in-Ok-run_cells.ended.cells.items
     (unrun-cells g.P.Processor.seen c.args.workers c.args.new c.requires.unrun)
-    c.in-Ok-run_cells.ensures.ended c.move_cells.new.cells.items c.move_cells.ensures
+    c.in-Ok-run_cells.ensures.ok.ended c.move_cells.new.cells.items c.move_cells.ensures
     c.first_stop-stop.result c.first_stop-stop.ensures.found
 
 pub end_cells-end-requires-clause-cells : goal.end_cells-end-requires-clause-cells
 end_cells-end-requires-clause-cells g c κs within =
     subst (λ table. IfNone c.first_stop-stop.result (AreCells g.P.Processor.seen
-    (identity_of table) c.move_cells.new.cells.items)) (sym c.in-Ok-run_cells.ensures.table)
+    (identity_of table) c.move_cells.new.cells.items)) (sym c.in-Ok-run_cells.ensures.ok.same_table)
     (unstopped-cells g.P.Processor.seen (identity_of c.args.new.table) c.args.new.cells.items
     c.in-Ok-run_cells.ended.cells.items
     (unrun-cells g.P.Processor.seen c.args.workers c.args.new c.requires.unrun)
-    c.in-Ok-run_cells.ensures.ended c.move_cells.new.cells.items c.move_cells.ensures
+    c.in-Ok-run_cells.ensures.ok.ended c.move_cells.new.cells.items c.move_cells.ensures
     c.first_stop-stop.result c.first_stop-stop.ensures.missing)
 
 pub give_boxes-requires-in-Ok-run_cells-clause-room :
@@ -46,7 +46,7 @@ give_boxes-requires-in-Ok-run_cells-clause-room g c κs within =
     let ends = run-ended seen (identity_of c.args.new.table) c.args.new.cells.items
     c.in-Ok-run_cells.ended.cells.items
     (unrun-cells seen c.args.workers c.args.new c.requires.unrun)
-    c.in-Ok-run_cells.ensures.ended c.move_cells.new.cells.items c.move_cells.ensures
+    c.in-Ok-run_cells.ensures.ok.ended c.move_cells.new.cells.items c.move_cells.ensures
     (sizes_in c.in-Ok-run_cells.ended.table).wires c.end_cells-end.new.cells.items
     c.end_cells-end.result c.first_stop-stop.result c.first_stop-stop.ensures.found
     c.first_stop-stop.ensures.missing c.end_cells-end.ensures.stopped
@@ -60,7 +60,7 @@ returns-in-Ok-run_cells-clause-back g c =
     let ends = run-ended seen (identity_of c.args.new.table) c.args.new.cells.items
     c.in-Ok-run_cells.ended.cells.items
     (unrun-cells seen c.args.workers c.args.new c.requires.unrun)
-    c.in-Ok-run_cells.ensures.ended c.move_cells.new.cells.items c.move_cells.ensures
+    c.in-Ok-run_cells.ensures.ok.ended c.move_cells.new.cells.items c.move_cells.ensures
     (sizes_in c.in-Ok-run_cells.ended.table).wires c.end_cells-end.new.cells.items
     c.end_cells-end.result c.first_stop-stop.result c.first_stop-stop.ensures.found
     c.first_stop-stop.ensures.missing c.end_cells-end.ensures.stopped
@@ -77,7 +77,7 @@ returns-in-Ok-run_cells-clause-end g c = λ b begins.
     let ends = run-ended seen (identity_of c.args.new.table) old
     c.in-Ok-run_cells.ended.cells.items
     (unrun-cells seen c.args.workers c.args.new c.requires.unrun)
-    c.in-Ok-run_cells.ensures.ended c.move_cells.new.cells.items c.move_cells.ensures
+    c.in-Ok-run_cells.ensures.ok.ended c.move_cells.new.cells.items c.move_cells.ensures
     (sizes_in c.in-Ok-run_cells.ended.table).wires after
     c.end_cells-end.result c.first_stop-stop.result c.first_stop-stop.ensures.found
     c.first_stop-stop.ensures.missing c.end_cells-end.ensures.stopped
@@ -88,7 +88,7 @@ returns-in-Ok-run_cells-clause-end g c = λ b begins.
     (unrun-starting seen c.args.workers c.args.new c.requires.unrun) ends.0
     c.end_cells-end.result c.exec_end.result
     (subst (λ table. CellsEndHolds c.end_cells-end.result (sizes_in table).wires (boxes_in seen old)
-    (boxes_in seen after)) c.in-Ok-run_cells.ensures.table ends.1) c.exec_end.ensures)
+    (boxes_in seen after)) c.in-Ok-run_cells.ensures.ok.same_table ends.1) c.exec_end.ensures)
 
 pub returns-in-Err-clause-back : goal.returns-in-Err-clause-back
 returns-in-Err-clause-back g c = moved-back g.P.Processor.seen c.args.new.cells.items
