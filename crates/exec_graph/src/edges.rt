@@ -4,9 +4,11 @@ ghost use Rattle.proc_api.specs.Graphs.{rank_at};
 use chunk_data::List;
 use port_word::Wire;
 
-const MAX_INPUTS: u32 = 32;
+/// The most inputs that a node has.
+const MOST_INPUTS: u32 = 32;
 
-const MAX_OUTPUTS: u32 = 16;
+/// The most outputs that a node has.
+const MOST_OUTPUTS: u32 = 16;
 
 /// Whether the edge goes from a lower rank to a higher one.
 #[tactic(auto, unfolding(proc_api::specs::Graphs::rank_at))]
@@ -22,5 +24,5 @@ pub(crate) fn is_ranked(ranks: &List<u32>, wire: &Wire) -> bool
 pub(crate) fn has_small_ports(wire: &Wire) -> bool
     ensures { result ≡ (nat_lt wire.now.input 32 && nat_lt wire.now.out 16) }
 {
-    wire.input < MAX_INPUTS && wire.out < MAX_OUTPUTS
+    wire.input < MOST_INPUTS && wire.out < MOST_OUTPUTS
 }

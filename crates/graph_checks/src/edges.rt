@@ -8,6 +8,12 @@ ghost use Rattle.graph_checks.specs.Flaws.{edges_flaw, ranks_of};
 use exec_laws::GrowthFlaw;
 use proc_api::{Edge, GrowNode, Who};
 
+/// The most inputs that a node has.
+const MOST_INPUTS: u32 = 32;
+
+/// The most outputs that a node has.
+const MOST_OUTPUTS: u32 = 16;
+
 /// The first flaw of the edges of a growth, by the rank of the node that grows and by how many
 /// blanks and edges are left of its reserve.
 pub fn edges_flaw(
@@ -104,5 +110,5 @@ fn any_large_port(edges: &[Edge]) -> bool
 fn has_large_port(edge: &Edge) -> bool
     ensures { result ≡ has_large_port edge.now }
 {
-    !(edge.to.port < 32 && edge.from.port < 16)
+    !(edge.to.port < MOST_INPUTS && edge.from.port < MOST_OUTPUTS)
 }
