@@ -1,35 +1,71 @@
 -- What is held of the inputs of a merge, as ends are noted and the first row is looked for.
 use Rattle.std.proofs.lemmas.Grind.{common_steps}
-use Rattle.std.proofs.Common.{◌≡◌, ◌≢◌, ℕ, suc, ◌+◌, ◌<◌, ◌≤◌, ◌-◌, ◌^◌, ◌&&◌, drop, min, Bool, true, false, List, [], ◌∷◌, length, get_or, not, Option, Some, None, refl, sym, ap, subst, ◌∙◌, arith, inl, inr}
-use Rattle.sort_procs.proofs.Imports.{All, FitsTypes, GoesFirst, HasRows, Head, IsBeforeNone, IsRowRun, IsRunBefore, IsFirstHead, IsFirstBut, IsRank, IsRankAt, Row, SortKey, SortSpec, Table, and_from, and_parts, at, every-append, get_or-drop, goes_by, leb-false, length-drop, next_rows, take_more, cases_lt, comes_before, first_row, get_or_read, head_at, head_of, heads_of, is_lt, is_used, list_all, nat_cmp, no_head, Ordering, not-true, ordering_reverse, ordering_then, row_at, row_cmp, row_cmp_total, rows-ordered}
+use Rattle.std.proofs.Common.{◌≡◌, ◌≢◌, ℕ, zero, suc, ◌+◌, ◌++◌, ◌<◌, ◌≤◌, ◌-◌, ◌^◌, ◌&&◌, drop, min, Bool, true, false, List, [], ◌∷◌, length, get_or, not, Option, Some, None, refl, sym, ap, ap₂, subst, ◌∙◌, arith, inl, inr}
+use Rattle.sort_procs.proofs.Imports.{All, GoesFirst, HasRanks, HasRows, Head, IsBeforeNone, IsFirstBut, IsFirstHead, IsRanked, IsRowRun, IsRunBefore, Ordering, Ranked, Row, SortKey, SortSpec, and_from, and_parts, at, cases_lt, comes_before, count_up, every-append, first_row, get_or-append_seam, get_or-drop, get_or-map, get_or_append_left, get_or_read, goes_by, head_at, head_of, heads_of, is_lt, is_used, leb-false, length-append, length-drop, length-map, list_all, next_rows, no_head, not-true, ordering_reverse, ranked_cmp, ranked_place, row_at, row_cmp, row_cmp_total, rows-ordered, take_more}
 use Rattle.std.specs.declared.cmp.Ordering.TheVariants.{Equal, Greater, Less}
-use Rattle.sort_procs.proofs.RankLaws.{FitOneType, left-same, rank-tells}
+use Rattle.sort_procs.proofs.RankLaws.{ranks_tell}
 
 -- a head that was read
 pub read-at : (heads : List Head) (i : ℕ) (x : Head) → i < length heads → x ≡ get_or heads i x
     → get_or heads i x ≡ at heads i
 read-at heads i x lt is = sym is ∙ get_or_read heads i x lt is no_head
 
--- ---- the first row
+-- ---- ranks
 
--- unequal ranks tell what the keys do
-pub ranks_tell : (order : SortSpec) (t u : Table) (i j r s : ℕ) → IsRankAt order t i r
-    → IsRankAt order u j s
-    → ordering_then (nat_cmp r s) (row_cmp order.keys (row_at t.rows i) (row_at u.rows j))
-    ≡ row_cmp order.keys (row_at t.rows i) (row_at u.rows j)
-ranks_tell order t u i j r s h k =
-    rank-tells t.types order.keys (row_at t.rows i) (row_at u.rows j) r s _ alike h.ranks k.ranks
-    (λ e. sym (left-same t.types order.keys (row_at t.rows i) (row_at u.rows j) r alike h.ranks
-    (subst (IsRank order.keys (row_at u.rows j)) (sym e) k.ranks)))
-  where
-    alike : FitOneType t.types order.keys (row_at t.rows i) (row_at u.rows j)
-    alike = record {
-      one = let f = h.table in f i [] h.within;
-      other = subst (λ l. FitsTypes l (row_at u.rows j))
-          (k.fits.types_are ∙ sym h.fits.types_are) (let f = k.table in f j [] k.within);
-      within = subst (λ l. All (λ (key : SortKey). key.column < length l) order.keys)
-          (sym h.fits.types_are) h.fits.keys_within;
-    }
+count-long : (n : ℕ) → length (count_up n) ≡ n
+unfolding count_up
+count-long zero = refl
+count-long (suc n) =
+    length-append (count_up n) (n ∷ []) ∙ (let l = count-long n in omega (arith, l))
+
+count-at : (n i : ℕ) → i < n → get_or (count_up n) i 0 ≡ i
+unfolding count_up
+count-at zero i lt = absurd (omega (arith, lt))
+count-at (suc n) i lt = elim (cases_lt i n) [
+  | inl less ↦
+      get_or_append_left (count_up n) (n ∷ []) 0 i (let l = count-long n in omega (arith, l, less))
+      ∙ count-at n i less
+  | inr le ↦
+      let same : i ≡ n = omega (arith, lt, le) in
+      subst (λ k. get_or (count_up n ++ n ∷ []) k 0 ≡ i) (count-long n ∙ sym same)
+      (get_or-append_seam (count_up n) n [] 0 ∙ sym same)
+]
+
+module _ (order : SortSpec) (h : Head) (ranked : IsRanked order h) where
+  ranks-long : length h.ranks ≡ length h.chunk.rows
+  ranks-long = sym (length-map h.ranks ranked_place) ∙ ap length ranked.places
+      ∙ count-long (length h.chunk.rows)
+
+  pub in-ranks : (i : ℕ) → i < length h.chunk.rows → i < length h.ranks
+  in-ranks i lt = let l = ranks-long in omega (arith, l, lt)
+
+  -- the ranks of row i
+  ranks-at : (i : ℕ) (d : Ranked) → i < length h.chunk.rows
+      → (ranked_place (get_or h.ranks i d) ≡ i) × HasRanks h.chunk order.keys (get_or h.ranks i d)
+  ranks-at i d lt =
+      let all = ranked.ranks in (
+        sym (get_or-map ranked_place h.ranks i d 0 (in-ranks i lt))
+            ∙ ap (λ l. get_or l i 0) ranked.places ∙ count-at (length h.chunk.rows) i lt,
+        all i d (in-ranks i lt),
+      )
+
+-- rows of two heads compare as they do by the ranks that were read
+pub heads-tell : (order : SortSpec) (h g : Head) (i j : ℕ) (a b : Ranked) → IsRanked order h
+    → IsRanked order g → i < length h.chunk.rows → j < length g.chunk.rows
+    → a ≡ get_or h.ranks i a → b ≡ get_or g.ranks j b
+    → ranked_cmp h.chunk g.chunk order.keys a b
+    ≡ row_cmp order.keys (row_at h.chunk.rows i) (row_at g.chunk.rows j)
+heads-tell order h g i j a b k l lt less is are =
+    let one = subst (λ r. (ranked_place r ≡ i) × HasRanks h.chunk order.keys r) (sym is)
+    (ranks-at order h k i a lt) in
+    let other = subst (λ r. (ranked_place r ≡ j) × HasRanks g.chunk order.keys r) (sym are)
+    (ranks-at order g l j b less) in
+    ranks_tell h.chunk g.chunk order.keys k.table l.table (k.fits.types_are ∙ sym l.fits.types_are)
+    (subst (λ types. All (λ (key : SortKey). key.column < length types) order.keys)
+    (sym k.fits.types_are) k.fits.keys_within) a b one.1 other.1
+    ∙ ap₂ (λ m n. row_cmp order.keys (row_at h.chunk.rows m) (row_at g.chunk.rows n)) one.0 other.0
+
+-- ---- the first row
 
 module _ (keys : List SortKey) (heads : List Head) where
   abbrev lt : ℕ → ℕ → Bool

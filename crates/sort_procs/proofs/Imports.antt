@@ -19,18 +19,18 @@ pub use Rattle.query_model.proofs.Imports.{IfOk, Int, IsPermutation-map, IsPermu
 pub use Rattle.query_model.proofs.Lists.{map-map}
 pub use Rattle.query_model.proofs.ValueOrder.{value_cmp_total}
 pub use Rattle.query_model.specs.declared.processor_spec.SortSpec.{SortSpec}
-pub use Rattle.sort_procs.specs.Heads.{AreBlank, AreHeadsOf, AreRanked, AreUsedFrom, GivesRanks, GoesFirst, HasRows, IsFirstBut, IsFirstHead, IsMoved, IsRankAt, IsRanked, IsRowRun, IsRunBefore, NotesEnds, at, comes_before, first_row, goes_by, head_of, heads_of, is_over_at, is_ready, is_used, next_rows, no_head}
+pub use Rattle.sort_procs.specs.Heads.{AreBlank, AreRanked, AreUsedFrom, GoesFirst, HasRows, IsFirstBut, IsFirstHead, IsMoved, IsRanked, IsRowRun, IsRunBefore, NotesEnds, at, comes_before, first_row, goes_by, head_of, heads_of, is_over_at, is_ready, is_used, next_rows, no_head}
 pub use Rattle.sort_procs.specs.Merging.{Merges, MergesSome, is_open_at, merging_own}
-pub use Rattle.sort_procs.specs.Ranks.{HasRanks, IsKeyRank, IsRank, IsSplit, IsValueRank, PutsFront, PutsMore, digit, in_direction, is_exact, is_exact_value, keys_left, next_keys, place_cmp, ranked_cmp, ranked_place, rows_at}
+pub use Rattle.sort_procs.specs.Ranks.{AreRanks, HasRanks, IsKeyRank, IsRank, IsSplit, IsValueRank, PutsFront, PutsMore, bytes_told, digit, in_direction, is_exact, is_exact_value, is_ranked_before, keys_left, keys_tied, place_cmp, ranked_cmp, ranked_place, rows_at, value_behind}
 pub use Rattle.sort_procs.specs.Sorted.{sorting_own_of}
 pub use Rattle.sort_procs.specs.Sorting.{PutsInOrder, any_order, rows_left, sorting_own}
 pub use Rattle.sort_procs.specs.declared.heads.Head.{Head}
 pub use Rattle.sort_procs.specs.declared.ranks.Ranked.{Ranked}
 pub use Rattle.std.proofs.Math.Nat.{add-mul-mod_self_right, mul-le-mul_right, mul-suc, suc-mul}
-pub use Rattle.std.proofs.Math.Seq.{drop-append_seam, drop-cons, take-add, take-append_seam}
+pub use Rattle.std.proofs.Math.Seq.{drop-append_seam, drop-cons, get_or-append_seam, take-add, take-append_seam}
 pub use Rattle.std.proofs.lemmas.Bool.{and_from, and_parts, cases_eq, cases_lt, cond_both, le-leb, le-ltb, leb-false, leb-true, lt-leb, lt-ltb, ltb-true, not-true, or_left, or_right}
 pub use Rattle.std.proofs.lemmas.Fn.{always_returns_same}
-pub use Rattle.std.proofs.lemmas.List.{append-nil, drop-drop, drop_all, get_or-map, get_or-set_other, get_or-set_same, get_or_past, get_or_read, length-append, length-drop, length-map, length-set, length-take, map-append, map-set, nil_from_length, get_or-drop, get_or-take, get_or_default, set-get_or, set-set, take-append-drop, take_all, take_more}
+pub use Rattle.std.proofs.lemmas.List.{append-nil, drop-drop, drop_all, get_or-map, get_or-set_other, get_or-set_same, get_or_past, get_or_read, length-append, length-drop, length-map, length-set, length-take, map-append, map-set, nil_from_length, get_or-drop, get_or-take, get_or_append_left, get_or_default, set-get_or, set-set, take-append-drop, take_all, take_more}
 pub use Rattle.std.proofs.lemmas.List.Elements.{All-append, All-cons, All-drop, All-map, All-take, recursion_from_All, Contains-append_left, Contains-append_right}
 pub use Rattle.std.proofs.lemmas.List.Folds.{list_all-map}
 pub use Rattle.std.specs.Cmp.{IsStrictWeakOrder, IsTotalOrder, bool_cmp_total, int_cmp_is, nat_cmp_total, on_total, then_total}

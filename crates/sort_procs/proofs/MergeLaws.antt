@@ -1,7 +1,7 @@
 -- The clauses of a merge's kernel.
 use Rattle.std.proofs.lemmas.Grind.{common_steps}
 use Rattle.std.proofs.Common.{◌≡◌, Bool, Option, ℕ, suc, ◌+◌, ◌<◌, ◌≤◌, ◌&&◌, not, true, false, List, [], ◌∷◌, ◌++◌, length, take, drop, get_or, set, append_assoc, Some, None, refl, sym, ap, ap₂, subst, ◌∙◌, arith, inl, inr}
-use Rattle.sort_procs.proofs.Imports.{AreBlank, AreHeadsOf, AreMerged, Begins, FitsOrder, Head, InputHead, AreRanked, GivesRanks, get_or_past, AreUsedFrom, IsFirstHead, IsFirstBut, IsMoved, length-take, IsRanked, IsRowRun, AllByRecursion, IsBeforeNone, every-weaker, drop-drop, take-append-drop, next_rows, row_at, rows-ordered, get_or-set_other, Leaves, Makes, Merges, MergesSome, NotesEnds, Offer, OfferComes, Offers, Picture, Row, SortKey, SortSpec, Table, Takes, WantsMore, and_parts, append-nil, at, cases_lt, chunk_rows, cond_both, drop-cons, drop_all, first_row, get_or-set_same, head_at, head_of, head_rows, heads_of, in_count, is_lt, is_open_at, is_ready, is_ready_head, is_used, le-leb, le-ltb, leb-false, leb-true, length-append, length-drop, length-map, length-set, list_all, list_all-map, lt-leb, lt-ltb, map-set, merging_own, no_head, not-true, or_left, row_cmp, with_chunk, written_back}
+use Rattle.sort_procs.proofs.Imports.{AreBlank, AreMerged, Begins, FitsOrder, Head, InputHead, AreRanked, AreUsedFrom, IsFirstHead, IsFirstBut, IsMoved, length-take, IsRanked, IsRowRun, AllByRecursion, IsBeforeNone, every-weaker, drop-drop, take-append-drop, next_rows, row_at, rows-ordered, get_or-set_other, Leaves, Makes, Merges, MergesSome, NotesEnds, Offer, OfferComes, Offers, Picture, Ranked, Row, SortKey, SortSpec, Table, Takes, WantsMore, and_parts, append-nil, at, cases_lt, chunk_rows, cond_both, drop-cons, drop_all, first_row, get_or-set_same, head_at, head_of, head_rows, heads_of, in_count, is_lt, is_open_at, is_ready, is_ready_head, is_used, le-leb, le-ltb, leb-false, leb-true, length-append, length-drop, length-map, length-set, list_all, list_all-map, lt-leb, lt-ltb, map-set, merging_own, no_head, not-true, or_left, row_cmp, with_chunk, written_back}
 use Rattle.query_model.specs.declared.processor_spec.Spec.TheVariants as spec
 use Rattle.sort_procs.proofs.HeadLaws.{all-pass, each-passes, head-at, read-at}
 use Rattle.sort_procs.proofs.MergingLaws.{IsLeastBut, merged-none, merged-noted, merged-run, merged-taken, same-heads, set-each}
@@ -52,7 +52,7 @@ none-ready heads e = grind (arith, all-used, list_all-map, ready-same)
 
 -- ---- it begins
 
-pub blank-fits : (order : SortSpec) (heads : List Head) → AreBlank 32 heads → AreHeadsOf order heads
+pub blank-fits : (order : SortSpec) (heads : List Head) → AreBlank 32 heads → AreRanked order heads
 blank-fits order heads b = grind (arith, none-used)
 
 pub begins : (order : SortSpec) (heads : List Head) → AreBlank 32 heads
@@ -105,10 +105,10 @@ set-ends heads i new lt e = grind (arith, common_steps, set-each)
 
 -- ---- a chunk is taken
 
-module _ (order : SortSpec) (heads : List Head) (i : ℕ) (t : Table) (are : AreHeadsOf order heads)
-    (lt : i < 32) where
+module _ (order : SortSpec) (heads : List Head) (i : ℕ) (t : Table) (ranks : List Ranked)
+    (are : AreRanked order heads) (lt : i < 32) where
   abbrev new : Head
-  new = record { chunk = t; place = 0; rank = 0; ended = false }
+  new = record { chunk = t; ranks = ranks; place = 0; ended = false }
 
   here : i < length heads
   here = let c = are.count in omega (arith, lt, c)
@@ -133,53 +133,13 @@ module _ (order : SortSpec) (heads : List Head) (i : ℕ) (t : Table) (are : Are
 
 -- ---- rows are made
 
-pub ranked-fit : (order : SortSpec) (heads : List Head) → AreRanked order heads
-    → AreHeadsOf order heads
-ranked-fit order heads r = record {
-  count = r.count;
-  fits = λ i unused. let k = r.ranked i unused in k.fits;
+pub none-merged : (keys : List SortKey) (heads : List Head) (rows : List Row) → rows ≡ []
+    → Merges keys heads heads rows
+none-merged keys heads rows none = record {
+  ends = λ i. refl;
+  means = λ worked made m. subst (AreMerged keys (heads_of heads) worked)
+      (sym (append-nil made) ∙ ap (λ l. made ++ l) (sym none)) m;
 }
-
-same-of : (old new : List Head) → length new ≡ length old
-    → ((j : ℕ) → head_of (at new j) ≡ head_of (at old j)) → heads_of new ≡ heads_of old
-same-of [] [] l e = refl
-same-of (o ∷ old) (n ∷ new) l e =
-    ap₂ (λ a b. a ∷ b) (e 0) (same-of old new (omega (arith, l)) (λ j. e (suc j)))
-same-of _ _ l e = absurd (omega (arith, l))
-
--- heads that were given their ranks hold what they held
-pub ranks-given : (order : SortSpec) (old now : List Head) → AreHeadsOf order old
-    → list_all is_ready old ≡ true → GivesRanks order (length old) old now
-    → AreRanked order now × (list_all is_ready now ≡ true) × Merges order.keys old now []
-ranks-given order old now are ready g = (
-  record {
-    count = g.count ∙ are.count;
-    ranked = λ j. elim (cases_lt j (length old)) [
-      | inl lt ↦ let m = g.below j lt in m.ranked
-      | inr le ↦ λ unused. absurd (let c : false ≡ true = sym unused ∙ ap is_used
-          (g.above j le ∙ get_or_past old j no_head le) in cc)
-    ];
-  },
-  all-pass is_ready now (λ j lt.
-      let low : j < length old = (let n = g.count in omega (arith, lt, n)) in
-      sym (ready-same (at now j)) ∙ ap is_ready_head (each j) ∙ ready-same (at old j)
-      ∙ each-passes is_ready old ready j low),
-  record {
-    ends = λ j. ap (λ (h : InputHead). h.ended) (each j);
-    means = λ worked done m. subst (AreMerged order.keys (heads_of now) worked)
-        (sym (append-nil done))
-        (subst (λ l. AreMerged order.keys l worked done) (sym (same-of old now g.count each)) m);
-  },
-)
-  where
-    each : (j : ℕ) → head_of (at now j) ≡ head_of (at old j)
-    each j = elim (cases_lt j (length old)) [
-      | inr le ↦ ap head_of (g.above j le)
-      | inl lt ↦
-          let m = g.below j lt in
-          ap₂ (λ r b. record { rows = r; ended = b })
-          (ap₂ (λ k (t : Table). drop k t.rows) (m.place ∙ omega arith) m.chunk) m.ended
-    ]
 
 every-one : {X : Type 0} (P : X → Type 0) → ((x : X) → P x) → (xs : List X)
     → AllByRecursion P xs
@@ -193,7 +153,7 @@ module _ {order : SortSpec} {old now : List Head} {i n count room : ℕ} {made :
     (used : AreUsedFrom now count) (below : i < count) (few : count ≤ length now)
     (others : IsFirstBut order.keys now i count second)
     (run : IsRowRun order.keys now (at now i) second room n)
-    (moved : IsMoved order n (at now i) next)
+    (moved : IsMoved n (at now i) next)
   where
     abbrev later : List Head
     later = set now i next
@@ -289,9 +249,19 @@ module _ {order : SortSpec} {old now : List Head} {i n count room : ℕ} {made :
     pub run-fits : AreRanked order later
     run-fits = record {
       count = length-set now i next ∙ are.count;
-      ranked = set-each now i next no_head (λ j g. IsRanked order g) in-range moved.ranked
+      ranked = set-each now i next no_head (λ j g. is_used g ≡ false → IsRanked order g) in-range
+          (λ free. still-ranked (are.ranked i (lt-leb (length (at now i).chunk.rows)
+          (at now i).place (let l = next-free free in omega (arith, l)))))
           (λ j ne. are.ranked j);
     }
+      where
+        still-ranked : IsRanked order (at now i) → IsRanked order next
+        still-ranked r = record {
+          fits = rw moved.chunk r.fits;
+          table = rw moved.chunk r.table;
+          places = rw (moved.ranks, moved.chunk) r.places;
+          ranks = rw (moved.ranks, moved.chunk) r.ranks;
+        }
 
     pub run-used : AreUsedFrom later count
     run-used = set-each now i next no_head (λ j g. count ≤ j → is_used g ≡ true) in-range
@@ -358,7 +328,7 @@ pub run-made : {order : SortSpec} {old now : List Head} {i n count room : ℕ}
     → count ≤ length now
     → IsFirstHead order.keys now count count i → IsFirstBut order.keys now i count second
     → IsRowRun order.keys now (at now i) second room n → u ≡ get_or now i u → x ≡ get_or now i x
-    → rows ≡ made ++ next_rows (get_or now i u) n → IsMoved order n (get_or now i x) next
+    → rows ≡ made ++ next_rows (get_or now i u) n → IsMoved n (get_or now i x) next
     → IsRunMade order old (set now i next) count n room second made rows
 run-made {order} {old} {now} {i} {n} {count} {room} {made} {rows} {second} {u} {x} {next} h are
     ready
@@ -387,8 +357,8 @@ run-made {order} {old} {now} {i} {n} {count} {room} {made} {rows} {second} {u} {
     is : rows ≡ made ++ next_rows (at now i) n
     is = e ∙ ap (λ g. made ++ next_rows g n) (read-at now i u here in-u)
 
-    is-moved : IsMoved order n (at now i) next
-    is-moved = subst (λ g. IsMoved order n g next) (read-at now i x here in-x) moved
+    is-moved : IsMoved n (at now i) next
+    is-moved = subst (λ g. IsMoved n g next) (read-at now i x here in-x) moved
 
 -- where the head that changed is ready still, all are
 pub still-ready : (now : List Head) (i : ℕ) (next r : Head) → list_all is_ready now ≡ true

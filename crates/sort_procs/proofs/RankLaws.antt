@@ -1,8 +1,7 @@
 -- A lower rank is that of a row that comes before, so that places sorted by ranks and keys are
 -- those of the rows in order.
-use Rattle.std.proofs.lemmas.Grind.{common_steps}
-use Rattle.std.proofs.Common.{◌≡◌, ◌≢◌, ◌⊎◌, ℕ, zero, suc, ◌+◌, ◌-◌, ◌*◌, ◌%◌, ◌<◌, ◌≤◌, leb, Bool, true, false, cond, nat_lt, List, [], ◌∷◌, length, map, get_or, drop, take, ◌++◌, refl, sym, ap, subst, ◌∙◌, arith, inl, inr, IsPermutation, IsSorted, append_assoc}
-use Rattle.sort_procs.proofs.Imports.{AgreeOnKey, All, All-drop, All-map, All-permutation, All-take, AllByRecursion, AreBytes, ColumnType, Equal, FitsType, FitsTypes, FitsTypes-at, Greater, HasRanks, IsKeyRank, IsPermutation-append_left, IsPermutation-append_right, IsPermutation-trans, IsRank, IsSortedBy, IsSplit, IsStrictWeakOrder, IsTable, IsTotalOrder, IsValueRank, Less, Ordering, PutsFront, PutsMore, Ranked, Row, SortKey, Table, Text, Value, add-mul-mod_self_right, any_order, bool_cmp, bool_cmp_total, byte_weight, cases_lt, count_up, digit, drop-append_seam, drop-cons, drop_all, every-permuted, get_or-drop, get_or-map, get_or-take, get_or_default, get_or_past, in_direction, ints, is_exact, is_exact_value, is_lt, key_cmp, keys_left, le-leb, le-ltb, length-FitsTypes, length-append, length-drop, length-map, length-take, length_permutation, lt-leb, lt-ltb, map-append, map-map, mul-le-mul_right, mul-suc, nat_cmp, nat_cmp_total, next_keys, on_total, order-from_sorted, order-joined, ordered-order, ordered-same, ordering_reverse, ordering_then, place_cmp, ranked_cmp, ranked_place, ranks_by, recursion_from_All, row_at, row_cmp, row_cmp_total, rows-ordered, rows_at, sorted-from_order, suc-mul, take-append-drop, take-append_seam, take_all, take_more, text_cmp, text_rank, then_total, tied_itself, type_at, value_at, value_cmp_total}
+use Rattle.std.proofs.Common.{◌≡◌, ◌≢◌, ◌⊎◌, ℕ, zero, suc, ◌+◌, ◌-◌, ◌*◌, ◌%◌, ◌<◌, ◌≤◌, leb, Bool, true, false, cond, nat_lt, List, [], ◌∷◌, length, map, get_or, drop, take, ◌++◌, refl, sym, ap, ap₂, subst, ◌∙◌, arith, inl, inr, IsPermutation, IsSorted, append_assoc}
+use Rattle.sort_procs.proofs.Imports.{AgreeOnKey, All, All-append, All-cons, All-drop, All-map, All-permutation, All-take, AllByRecursion, AreBytes, AreRanks, ColumnType, Equal, FitsType, FitsTypes, FitsTypes-at, Greater, HasRanks, Int, IsKeyRank, IsPermutation-append_left, IsPermutation-append_right, IsPermutation-trans, IsRank, IsSortedBy, IsSplit, IsStrictWeakOrder, IsTable, IsTotalOrder, IsValueRank, Less, Ordering, PutsFront, PutsMore, Ranked, Row, SortKey, Table, Text, UInt, Value, add-mul-mod_self_right, any_order, bool_cmp, bool_cmp_total, byte_weight, bytes_told, cases_lt, count_up, digit, drop-append_seam, drop-cons, drop-drop, drop_all, every-permuted, get_or-drop, get_or-map, get_or-take, get_or_default, get_or_past, in_direction, ints, is_exact, is_exact_value, is_lt, is_ranked_before, key_cmp, keys_left, keys_tied, le-leb, le-ltb, length-FitsTypes, length-append, length-drop, length-map, length-take, length_permutation, lt-leb, lt-ltb, map-append, map-map, mul-le-mul_right, mul-suc, nat_cmp, nat_cmp_total, on_total, order-from_sorted, order-joined, ordered-order, ordered-same, ordering_reverse, ordering_then, place_cmp, ranked_cmp, ranked_place, ranks_by, recursion_from_All, row_at, row_cmp, row_cmp_total, rows-ordered, rows_at, sorted-from_order, suc-mul, take-append-drop, take-append_seam, take_all, take_more, text_cmp, text_rank, then_total, tied_itself, type_at, value_at, value_behind, value_cmp, value_cmp_total}
 use Rattle.chunk_data.specs.declared.typed_value.ColumnType.TheVariants as column
 
 -- ---- texts
@@ -48,16 +47,15 @@ texts-less (suc n) (x ∷ a) (y ∷ b) f g lt =
     let digit = digit-less n y x b a g.1 in
     grind (arith, nat-less, nat-same, rest, digit, cases_lt x y, cases_lt y x)
 
--- texts of one rank that tells that there are no more bytes
-texts-same : (n : ℕ) (a b : List ℕ) → AreBytes n a → AreBytes n b
-    → text_rank n a ≡ text_rank n b → text_rank n a % 2 ≡ 0 → a ≡ b
+-- texts of one rank compare as what follows the bytes that it tells
+texts-rest : (n : ℕ) (a b : List ℕ) → AreBytes n a → AreBytes n b
+    → text_rank n a ≡ text_rank n b → text_cmp (drop n a) (drop n b) ≡ text_cmp a b
 unfolding text_rank AreBytes
-texts-same n [] [] f g e even = refl
-texts-same zero [] (y ∷ b) f g e even = absurd (omega (arith, e))
-texts-same (suc n) [] (y ∷ b) f g e even = absurd (grind (arith, weight-some, mul-suc))
-texts-same zero (x ∷ a) b f g e even = absurd (omega (arith, even))
-texts-same (suc n) (x ∷ a) [] f g e even = absurd (grind (arith, weight-some, mul-suc))
-texts-same (suc n) (x ∷ a) (y ∷ b) f g e even = elim (cases_lt x y) [
+texts-rest zero a b f g e = refl
+texts-rest (suc n) [] [] f g e = refl
+texts-rest (suc n) [] (y ∷ b) f g e = absurd (grind (arith, weight-some, mul-suc))
+texts-rest (suc n) (x ∷ a) [] f g e = absurd (grind (arith, weight-some, mul-suc))
+texts-rest (suc n) (x ∷ a) (y ∷ b) f g e = elim (cases_lt x y) [
   | inl lt ↦ absurd (let less = digit-less n x y a b f.1 lt in omega (arith, less, e))
   | inr le ↦ elim (cases_lt y x) [
     | inl lt ↦ absurd (let less = digit-less n y x b a g.1 lt in omega (arith, less, e))
@@ -69,12 +67,25 @@ texts-same (suc n) (x ∷ a) (y ∷ b) f g e even = elim (cases_lt x y) [
           subst (λ z. suc x * byte_weight n * 2 + text_rank n a
               ≡ suc z * byte_weight n * 2 + text_rank n b) (sym same) e,
         ) in
-        let last : text_rank n a % 2 ≡ 0 =
-        sym (add-mul-mod_self_right (text_rank n a) (suc x * byte_weight n) 2)
-        ∙ ap (λ z. z % 2) (omega arith) ∙ even in
-        ap (λ l. x ∷ l) (texts-same n a b f.1 g.1 rest last) ∙ ap (λ z. z ∷ b) same
+        subst (λ z. text_cmp (drop n a) (drop n b) ≡ text_cmp (x ∷ a) (z ∷ b)) same
+        (rw (nat-same x) (texts-rest n a b f.1 g.1 rest))
   ]
 ]
+
+-- and nothing follows where it tells that there are no more bytes
+none-behind : (n : ℕ) (a : List ℕ) → text_rank n a % 2 ≡ 0 → drop n a ≡ []
+unfolding text_rank
+none-behind zero [] even = refl
+none-behind zero (x ∷ a) even = absurd (omega (arith, even))
+none-behind (suc n) [] even = refl
+none-behind (suc n) (x ∷ a) even = none-behind n a
+    (sym (add-mul-mod_self_right (text_rank n a) (suc x * byte_weight n) 2)
+    ∙ ap (λ z. z % 2) (omega arith) ∙ even)
+
+texts-same : (n : ℕ) (a b : List ℕ) → AreBytes n a → AreBytes n b
+    → text_rank n a ≡ text_rank n b → text_rank n a % 2 ≡ 0 → text_cmp a b ≡ Equal
+texts-same n a b f g e even = sym (texts-rest n a b f g e)
+    ∙ ap₂ text_cmp (none-behind n a even) (none-behind n b (ap (λ r. r % 2) (sym e) ∙ even))
 
 -- the bytes from place i on, of which the first is counted first
 rank-next : (n i : ℕ) (bytes : List ℕ)
@@ -144,10 +155,6 @@ pub record FitOneType (types : List ColumnType) (keys : List SortKey) (a b : Row
   pub other : FitsTypes types b
   pub within : All (λ (key : SortKey). key.column < length types) keys
 
-pub turned-about : (types : List ColumnType) (keys : List SortKey) (a b : Row)
-    → FitOneType types keys a b → FitOneType types keys b a
-turned-about types keys a b h = record { one = h.other; other = h.one; within = h.within }
-
 -- the same of the keys behind the first
 behind-first : (types : List ColumnType) (keys : List SortKey) (a b : Row)
     → FitOneType types keys a b → FitOneType types (drop 1 keys) a b
@@ -167,63 +174,193 @@ keys-less : (t : ColumnType) (d : Bool) (v w : Value) (r s : ℕ) → FitsType t
     → IsKeyRank d v r → IsKeyRank d w s → r < s → key_cmp d v w ≡ Less
 keys-less t d v w r s f g h k lt = grind (arith, value_cmp_total, nat-less, texts-less, ints)
 
-pub rows-less : (types : List ColumnType) (keys : List SortKey) (a b : Row) (r s : ℕ)
-    → FitOneType types keys a b → IsRank keys a r → IsRank keys b s → r < s → row_cmp keys a b
-    ≡ Less
-unfolding row_cmp
-rows-less types [] a b r s f h k lt = absurd (omega (arith, h, k, lt))
-rows-less types (key ∷ keys) a b r s f h k lt =
-    let here : key.column < length types = let w = f.within in w 0 key (omega arith) in
-    rw (keys-less (type_at types key.column) key.descending (value_at a key.column)
-    (value_at b key.column) r s (first-fits types key a f.one here)
-    (first-fits types key b f.other here) h k lt) refl
+key-turned : (d : Bool) (v w : Value) → key_cmp d v w ≡ ordering_reverse (key_cmp d w v)
+key-turned false v w = value_cmp_total.antisymm v w
+key-turned true v w = ap ordering_reverse (value_cmp_total.antisymm v w)
 
 -- values that are told whole by one rank
 values-same : (t : ColumnType) (v w : Value) (r : ℕ) → FitsType t v → FitsType t w
-    → IsValueRank v r → IsValueRank w r → is_exact_value t r ≡ true → v ≡ w
-values-same t v w r f g h k e = grind (arith, texts-same, ints)
+    → IsValueRank v r → IsValueRank w r → is_exact_value t r ≡ true → value_cmp v w ≡ Equal
+values-same t v w r f g h k e = grind (arith, texts-same, ints, tied_itself value_cmp_total)
 
 keys-same : (t : ColumnType) (d : Bool) (v w : Value) (r : ℕ) → FitsType t v → FitsType t w
     → IsKeyRank d v r → IsKeyRank d w r → is_exact_value t (in_direction d r) ≡ true
     → key_cmp d v w ≡ Equal
-keys-same t d v w r f g h k e = grind (arith, values-same, tied_itself value_cmp_total)
+keys-same t d v w r f g h k e = grind (arith, values-same)
 
--- rows with one rank compare by the keys that are left
-pub left-same : (types : List ColumnType) (keys : List SortKey) (a b : Row) (r : ℕ)
-    → FitOneType types keys a b → IsRank keys a r → IsRank keys b r
-    → row_cmp (keys_left types keys r) a b ≡ row_cmp keys a b
-unfolding row_cmp
-left-same types [] a b r f h k = refl
-left-same types (key ∷ keys) a b r f h k = by (is_exact types (key ∷ keys) r) refl
+-- values of one rank compare as what follows the bytes that it tells
+values-rest : (v w : Value) (n r : ℕ) → IsValueRank (value_behind n v) r
+    → IsValueRank (value_behind n w) r
+    → value_cmp (value_behind (n + 7) v) (value_behind (n + 7) w)
+    ≡ value_cmp (value_behind n v) (value_behind n w)
+values-rest (Text a) (Text b) n r h k = rw (sym (drop-drop 7 n a), sym (drop-drop 7 n b))
+    (texts-rest 7 (drop n a) (drop n b) h.1 k.1 (sym h.0 ∙ k.0))
+values-rest (Int a) (Int b) n r h k = refl
+values-rest (Int a) (UInt b) n r h k = refl
+values-rest (Int a) (Text b) n r h k = refl
+values-rest (UInt a) (Int b) n r h k = refl
+values-rest (UInt a) (UInt b) n r h k = refl
+values-rest (UInt a) (Text b) n r h k = refl
+values-rest (Text a) (Int b) n r h k = refl
+values-rest (Text a) (UInt b) n r h k = refl
+
+keys-rest : (d : Bool) (v w : Value) (n r : ℕ) → IsKeyRank d (value_behind n v) r
+    → IsKeyRank d (value_behind n w) r
+    → key_cmp d (value_behind (n + 7) v) (value_behind (n + 7) w)
+    ≡ key_cmp d (value_behind n v) (value_behind n w)
+keys-rest false v w n r h k = values-rest v w n r h.is k.is
+keys-rest true v w n r h k = ap ordering_reverse (values-rest v w n _ h.is k.is)
+
+-- so many bytes of the text of the first key are the same in both rows, so that they compare by
+-- what follows these
+abbrev AreTold : List SortKey → (told : ℕ) → Row → Row → Type 0
+AreTold [] told a b = Unit {0}
+AreTold (key ∷ keys) told a b =
+    key_cmp key.descending (value_behind told (value_at a key.column))
+    (value_behind told (value_at b key.column))
+    ≡ key_cmp key.descending (value_at a key.column) (value_at b key.column)
+
+none-told : (keys : List SortKey) (a b : Row) → AreTold keys 0 a b
+none-told [] a b = tt
+none-told (key ∷ keys) a b =
+    ap₂ (λ v w. key_cmp key.descending v w) (whole (value_at a key.column))
+    (whole (value_at b key.column))
   where
-    by : (e : Bool) → is_exact types (key ∷ keys) r ≡ e
-        → row_cmp (cond e keys (key ∷ keys)) a b ≡ row_cmp (key ∷ keys) a b
-    by false e = refl
-    by true e =
-        let here : key.column < length types = let w = f.within in w 0 key (omega arith) in
-        rw (keys-same (type_at types key.column) key.descending (value_at a key.column)
-        (value_at b key.column) r (first-fits types key a f.one here)
-        (first-fits types key b f.other here) h k e) refl
+    whole : (v : Value) → value_behind 0 v ≡ v
+    whole (Text bytes) = refl
+    whole v = refl
 
--- ranks tell what the keys do, where those of the keys that are left do for one rank
-pub rank-tells : (types : List ColumnType) (keys : List SortKey) (a b : Row) (r s : ℕ)
-    (o : Ordering) → FitOneType types keys a b → IsRank keys a r → IsRank keys b s
-    → (r ≡ s → o ≡ row_cmp (keys_left types keys r) a b)
+behind-fits : (types : List ColumnType) (key : SortKey) (told : ℕ) (row : Row)
+    → FitsTypes types row → key.column < length types
+    → FitsType (type_at types key.column) (value_behind told (value_at row key.column))
+behind-fits types key told row h lt =
+    by (value_at row key.column) (first-fits types key row h lt)
+  where
+    by : (v : Value) → FitsType (type_at types key.column) v
+        → FitsType (type_at types key.column) (value_behind told v)
+    by (Int z) f = f
+    by (UInt n) f = f
+    by (Text bytes) f = f
+
+-- rows of unequal ranks compare as these do
+rows-differ : (types : List ColumnType) (keys : List SortKey) (told : ℕ) (a b : Row) (r s : ℕ)
+    → FitOneType types keys a b → AreTold keys told a b → IsRank keys told a r
+    → IsRank keys told b s
+    → (r < s → row_cmp keys a b ≡ Less) × (s < r → row_cmp keys a b ≡ Greater)
+unfolding row_cmp
+rows-differ types [] told a b r s f t h k =
+    (λ lt. absurd (omega (arith, h, k, lt)), λ lt. absurd (omega (arith, h, k, lt)))
+rows-differ types (key ∷ keys) told a b r s f t h k =
+    let here : key.column < length types = let w = f.within in w 0 key (omega arith) in
+    let kind = type_at types key.column in
+    let d = key.descending in
+    let v = value_behind told (value_at a key.column) in
+    let w = value_behind told (value_at b key.column) in
+    let fv = behind-fits types key told a f.one here in
+    let fw = behind-fits types key told b f.other here in (
+      λ lt. rw (sym t ∙ keys-less kind d v w r s fv fw h k lt) refl,
+      λ lt. rw (sym t ∙ key-turned d v w
+          ∙ ap ordering_reverse (keys-less kind d w v s r fw fv k h lt)) refl,
+    )
+
+-- rows that tie at a rank: they compare by the keys that are left, of which so many bytes are told
+record TieAt (types : List ColumnType) (keys left : List SortKey) (told : ℕ) (a b : Row)
+    : Type 0 where
+  pub fits : FitOneType types left a b
+  pub alike : AreTold left told a b
+  pub same : row_cmp left a b ≡ row_cmp keys a b
+
+ranks-tie : (types : List ColumnType) (keys : List SortKey) (told : ℕ) (a b : Row) (r : ℕ)
+    → FitOneType types keys a b → AreTold keys told a b → IsRank keys told a r
+    → IsRank keys told b r
+    → TieAt types keys (keys_left types keys r) (bytes_told types keys told r) a b
+unfolding row_cmp
+ranks-tie types [] told a b r f t h k = record { fits = f; alike = tt; same = refl }
+ranks-tie types (key ∷ keys) told a b r f t h k = by (is_exact types (key ∷ keys) r) refl
+  where
+    here : key.column < length types
+    here = let w = f.within in w 0 key (omega arith)
+
+    by : (e : Bool) → is_exact types (key ∷ keys) r ≡ e
+        → TieAt types (key ∷ keys) (cond e keys (key ∷ keys)) (cond e 0 (told + 7)) a b
+    by true e = record {
+      fits = behind-first types (key ∷ keys) a b f;
+      alike = none-told keys a b;
+      same = ap (λ o. ordering_then o (row_cmp keys a b))
+          (sym (sym t ∙ keys-same (type_at types key.column) key.descending
+          (value_behind told (value_at a key.column)) (value_behind told (value_at b key.column)) r
+          (behind-fits types key told a f.one here) (behind-fits types key told b f.other here)
+          h k e));
+    }
+    by false e = record {
+      fits = f;
+      alike = keys-rest key.descending (value_at a key.column) (value_at b key.column) told r h k
+          ∙ t;
+      same = refl;
+    }
+
+-- a rank tells what the keys do, where for the same rank the keys that are left do
+rank-tells : (types : List ColumnType) (keys : List SortKey) (told : ℕ) (a b : Row) (r s : ℕ)
+    (o : Ordering) → FitOneType types keys a b → AreTold keys told a b → IsRank keys told a r
+    → IsRank keys told b s
+    → (r ≡ s → TieAt types keys (keys_left types keys r) (bytes_told types keys told r) a b
+    → o ≡ row_cmp (keys_left types keys r) a b)
     → ordering_then (nat_cmp r s) o ≡ row_cmp keys a b
-rank-tells types keys a b r s o f h k tied = elim (cases_lt r s) [
-  | inl lt ↦ rw (nat-less r s lt) (sym (rows-less types keys a b r s f h k lt))
-  | inr le ↦ elim (cases_lt s r) [
-    | inl lt ↦
-        let t = row_cmp_total keys in
-        rw (nat_cmp_total.antisymm r s, nat-less s r lt)
-        (sym (t.antisymm a b ∙ ap ordering_reverse
-        (rows-less types keys b a s r (turned-about types keys a b f) k h lt)))
-    | inr ge ↦
-        let e : r ≡ s = omega (arith, le, ge) in
-        rw (sym e) (rw (nat-same r) (tied e ∙ left-same types keys a b r f h
-        (subst (IsRank keys b) (sym e) k)))
-  ]
-]
+rank-tells types keys told a b r s o f t h k tied =
+    let differ = rows-differ types keys told a b r s f t h k in
+    elim (cases_lt r s) [
+      | inl lt ↦ rw (nat-less r s lt) (sym (differ.0 lt))
+      | inr le ↦ elim (cases_lt s r) [
+        | inl lt ↦ rw (nat_cmp_total.antisymm r s, nat-less s r lt) (sym (differ.1 lt))
+        | inr ge ↦
+            let e : r ≡ s = omega (arith, le, ge) in
+            let tie = ranks-tie types keys told a b r f t h
+            (subst (IsRank keys told b) (sym e) k) in
+            rw (sym e) (rw (nat-same r) (tied e tie ∙ tie.same))
+      ]
+    ]
+
+-- all ranks tell what the keys do, where the keys at which rows of them may differ do
+row_ranks_tell : (types : List ColumnType) (keys : List SortKey) (x y : Row) (a b : Ranked)
+    (o : Ordering) → FitOneType types keys x y → AreRanks types keys x a
+    → AreRanks types keys y b → o ≡ row_cmp (keys_tied types keys a) x y
+    → ordering_then (nat_cmp a.first b.first) (ordering_then (nat_cmp a.second b.second)
+    (ordering_then (nat_cmp a.third b.third) o)) ≡ row_cmp keys x y
+row_ranks_tell types keys x y a b o f h g tied =
+    rank-tells types keys 0 x y a.first b.first _ f (none-told keys x y) h.first g.first
+    (λ e one. rank-tells types (left a.first) (told a.first) x y a.second b.second _ one.fits
+    one.alike h.second
+    (subst (λ n. IsRank (left n) (told n) y b.second) (sym e) g.second)
+    (λ i two. rank-tells types (keys_left types (left a.first) a.second)
+    (bytes_told types (left a.first) (told a.first) a.second) x y a.third b.third _ two.fits
+    two.alike h.third
+    (subst (λ m. IsRank (keys_left types (left a.first) m)
+    (bytes_told types (left a.first) (told a.first) m) y b.third) (sym i)
+    (subst (λ n. IsRank (keys_left types (left n) b.second)
+    (bytes_told types (left n) (told n) b.second) y b.third) (sym e) g.third))
+    (λ j three. tied)))
+  where
+    left : ℕ → List SortKey
+    left n = keys_left types keys n
+
+    told : ℕ → ℕ
+    told n = bytes_told types keys 0 n
+
+-- ranks that were found in turn
+pub has_ranks : (t : Table) (keys behind last : List SortKey) (r : Ranked) (n m : ℕ)
+    → r.place < length t.rows → IsRank keys 0 (row_at t.rows r.place) r.first
+    → behind ≡ keys_left t.types keys r.first → n ≡ bytes_told t.types keys 0 r.first
+    → IsRank behind n (row_at t.rows r.place) r.second
+    → last ≡ keys_left t.types behind r.second → m ≡ bytes_told t.types behind n r.second
+    → IsRank last m (row_at t.rows r.place) r.third → HasRanks t keys r
+has_ranks t keys behind last r n m within first b p second l q third = record {
+  within = within;
+  ranks = record {
+    first = first;
+    second = rw (sym b, sym p) second;
+    third = rw (sym b, sym p, sym l, sym q) third;
+  };
+}
 
 -- ---- the order by which places are sorted
 
@@ -286,61 +423,46 @@ module _ {A : Type 0} (f : A → ℕ) (R : ℕ → A → A → Ordering) where
     ];
   }
 
-pub ranked_total : (t : Table) (keys : List SortKey) → IsTotalOrder (ranked_cmp t keys)
+pub ranked_total : (t : Table) (keys : List SortKey) → IsTotalOrder (ranked_cmp t t keys)
 ranked_total t keys =
     given-total (λ (r : Ranked). r.first)
-    (λ n a b. ordering_then (nat_cmp a.second b.second)
-    (place_cmp (tied n a.second) t.rows a.place b.place))
+    (λ n a b. ordering_then (nat_cmp a.second b.second) (ordering_then (nat_cmp a.third b.third)
+    (by_place n a.second a.third a b)))
     (λ n. given-total (λ (r : Ranked). r.second)
-    (λ m a b. place_cmp (tied n m) t.rows a.place b.place)
-    (λ m. on_total ranked_place (then_total (on_total (λ i. leb (length t.rows) i) bool_cmp_total)
-    (on_total (row_at t.rows) (row_cmp_total (tied n m))))))
+    (λ m a b. ordering_then (nat_cmp a.third b.third) (by_place n m a.third a b))
+    (λ m. given-total (λ (r : Ranked). r.third) (by_place n m)
+    (λ k. on_total ranked_place (then_total (on_total (λ i. leb (length t.rows) i) bool_cmp_total)
+    (on_total (row_at t.rows) (row_cmp_total (tied n m k)))))))
   where
-    tied : ℕ → ℕ → List SortKey
-    tied n m = cond (is_exact t.types keys n) (keys_left t.types (drop 1 keys) m) keys
+    tied : ℕ → ℕ → ℕ → List SortKey
+    tied n m k = keys_left t.types (keys_left t.types (keys_left t.types keys n) m) k
 
-module _ (t : Table) (keys : List SortKey) (fit : IsTable t)
-    (within : All (λ (key : SortKey). key.column < length t.types) keys) where
-  -- places that are there compare as the rows do
-  places-tell : (k : List SortKey) (i j : ℕ) → i < length t.rows → j < length t.rows
-      → place_cmp k t.rows i j ≡ row_cmp k (row_at t.rows i) (row_at t.rows j)
-  places-tell k i j h g = grind (arith, lt-leb)
+    by_place : ℕ → ℕ → ℕ → Ranked → Ranked → Ordering
+    by_place n m k a b = place_cmp (tied n m k) t.rows t.rows a.place b.place
 
-  -- ranks and then the keys that are left tell what the keys do
-  pub ranks-tell : (a b : Ranked) → HasRanks t keys a → HasRanks t keys b
-      → ranked_cmp t keys a b ≡ row_cmp keys (row_at t.rows a.place) (row_at t.rows b.place)
-  ranks-tell a b h g =
-      rank-tells types keys x y a.first b.first _ alike h.first g.first
-      (λ e. by (is_exact types keys a.first) refl e)
-    where
-      types : List ColumnType
-      types = t.types
+-- ranks and then the keys that are left tell what the keys do, of rows of two tables
+pub ranks_tell : (t u : Table) (keys : List SortKey) → IsTable t → IsTable u
+    → t.types ≡ u.types → All (λ (key : SortKey). key.column < length t.types) keys
+    → (a b : Ranked) → HasRanks t keys a → HasRanks u keys b
+    → ranked_cmp t u keys a b ≡ row_cmp keys (row_at t.rows a.place) (row_at u.rows b.place)
+ranks_tell t u keys fit other types within a b h g =
+    row_ranks_tell t.types keys x y a b _
+    (record {
+      one = fit a.place [] h.within;
+      other = subst (λ l. FitsTypes l y) (sym types) (other b.place [] g.within);
+      within = within;
+    }) h.ranks (subst (λ l. AreRanks l keys y b) (sym types) g.ranks)
+    (places-tell (keys_tied t.types keys a))
+  where
+    x : Row
+    x = row_at t.rows a.place
 
-      x : Row
-      x = row_at t.rows a.place
+    y : Row
+    y = row_at u.rows b.place
 
-      y : Row
-      y = row_at t.rows b.place
-
-      alike : FitOneType types keys x y
-      alike = record {
-        one = fit a.place [] h.within;
-        other = fit b.place [] g.within;
-        within = within;
-      }
-
-      left : List SortKey
-      left = keys_left types (drop 1 keys) a.second
-
-      by : (e : Bool) → is_exact types keys a.first ≡ e → a.first ≡ b.first
-          → ordering_then (nat_cmp a.second b.second)
-          (place_cmp (cond e left keys) t.rows a.place b.place)
-          ≡ row_cmp (cond e (drop 1 keys) keys) x y
-      by true e same =
-          rank-tells types (drop 1 keys) x y a.second b.second _ (behind-first types keys x y alike)
-          (grind (arith, h.second)) (grind (arith, g.second))
-          (λ z. places-tell left a.place b.place h.within g.within)
-      by false e same = grind (arith, places-tell, nat-same, h, g)
+    -- places that are there compare as the rows do
+    places-tell : (k : List SortKey) → place_cmp k t.rows u.rows a.place b.place ≡ row_cmp k x y
+    places-tell k = grind (arith, lt-leb, h.within, g.within)
 
 -- the rows at all places, in order
 all-places : (rows : List Row) (k : ℕ) → k ≤ length rows
@@ -360,7 +482,7 @@ rows-same t ranks places =
 
 module _ (t : Table) (keys : List SortKey) where
   abbrev pub before : Ranked → Ranked → Bool
-  before a b = is_lt (ranked_cmp t keys a b)
+  before a b = is_ranked_before t keys a b
 
   pub before-order : IsStrictWeakOrder before
   before-order = ranks_by (ranked_total t keys) (λ (r : Ranked). r)
@@ -549,11 +671,11 @@ module _ (t : Table) (keys : List SortKey) where
       behind = All-drop (HasRanks t keys) count new all
 
       tells : (a b : Ranked) → HasRanks t keys a → HasRanks t keys b
-          → ranked_cmp t keys a b ≡ row_cmp keys (f a) (f b)
-      tells = ranks-tell t keys fit (λ m key less. let both = agree m key less in both.0)
+          → ranked_cmp t t keys a b ≡ row_cmp keys (f a) (f b)
+      tells = ranks_tell t t keys fit fit refl (λ m key less. let both = agree m key less in both.0)
 
       no_rank : Ranked
-      no_rank = record { first = 0; second = 0; place = 0 }
+      no_rank = record { first = 0; second = 0; third = 0; place = 0 }
 
       sorted : IsSortedBy lt xs
       sorted = λ k d low high.
@@ -567,11 +689,11 @@ module _ (t : Table) (keys : List SortKey) where
           ∙ h.sorted k no_rank low next)
 
 -- places of which one is past the last row
-pub places_out : (keys : List SortKey) (rows : List Row) (i j n : ℕ) (r : Ordering)
-    → n ≡ length rows → ((i < n) × (n ≤ j)) ⊎ (n ≤ i) → r ≡ bool_cmp (leb n i) (leb n j)
-    → r ≡ place_cmp keys rows i j
-places_out keys rows i j n r count h e = grind
-    (arith, cases_lt j n, le-leb, lt-leb, get_or_past, tied_itself (row_cmp_total keys) [])
+pub places_out : (keys : List SortKey) (left right : List Row) (i j n m : ℕ) (r : Ordering)
+    → n ≡ length left → m ≡ length right → ((i < n) × (m ≤ j)) ⊎ (n ≤ i)
+    → r ≡ bool_cmp (leb n i) (leb m j) → r ≡ place_cmp keys left right i j
+places_out keys left right i j n m r count other h e = grind
+    (arith, cases_lt j m, le-leb, lt-leb, get_or_past, tied_itself (row_cmp_total keys) [])
 
 -- the places of all ranks
 pub places-within : (ranks : List Ranked) (n i : ℕ) (places : List ℕ) → length ranks ≤ i
@@ -591,12 +713,16 @@ pub ranks-none : (t : Table) (keys : List SortKey) (ranks : List Ranked) → ran
 unfolding count_up
 ranks-none t keys ranks e = grind arith
 
-pub ranks-more : (t : Table) (keys : List SortKey) (ranks more : List Ranked) (place r s : ℕ)
-    → place < length t.rows → IsRank keys (row_at t.rows place) r
-    → IsRank (next_keys t.types keys r) (row_at t.rows place) s
-    → more ≡ ranks ++ record { first = r; second = s; place = place } ∷ []
+pub ranks-more : (t : Table) (keys : List SortKey) (ranks more : List Ranked) (place : ℕ)
+    (r : Ranked) → r.place ≡ place → HasRanks t keys r → more ≡ ranks ++ r ∷ []
     → map ranked_place ranks ≡ count_up place → All (HasRanks t keys) ranks
     → (map ranked_place more ≡ count_up (place + 1)) × All (HasRanks t keys) more
 unfolding count_up
-ranks-more t keys ranks more place r s lt is next e places all =
-    grind (arith, common_steps, map-append)
+ranks-more t keys ranks more place r at is e places all = (
+  let next : suc place ≡ place + 1 = omega arith in
+      subst (λ n. map ranked_place more ≡ count_up n) next (ap (map ranked_place) e
+      ∙ map-append ranked_place ranks (r ∷ []) ∙ ap₂ (λ l p. l ++ p ∷ []) places at),
+  subst (All (HasRanks t keys)) (sym e)
+      (All-append (HasRanks t keys) ranks (r ∷ []) all
+      (All-cons (HasRanks t keys) r [] is (λ k d lt. absurd (omega (arith, lt))))),
+)

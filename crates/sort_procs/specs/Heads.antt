@@ -1,12 +1,14 @@
 -- What a merge holds of its inputs.
-use Rattle.chunk_data.specs.Names.{IsTable, Row, Table, row_at, row_cmp}
+use Rattle.chunk_data.specs.Names.{IsTable, Row, row_at, row_cmp}
 use Rattle.proc_api.specs.Boxes.{InputHead}
 use Rattle.proc_api.specs.kinds.MergeSorted.{IsBeforeNone}
 use Rattle.proc_api.specs.Names.{FitsOrder}
 use Rattle.proc_api.specs.Prelude.{Picture, SortKey, SortSpec, in_count, input_at, is_in_finished}
-use Rattle.sort_procs.specs.Ranks.{IsRank}
+use Rattle.query_model.specs.Sources.{count_up}
+use Rattle.sort_procs.specs.Ranks.{HasRanks, ranked_place}
 use Rattle.sort_procs.specs.declared.heads.Head.{Head}
 use Rattle.std.specs.Ordering.{is_lt}
+use Rattle.std.specs.List.{All}
 use Rattle.std.specs.Prelude.{Bool, List, None, Option, Some, [], drop, false, leb, length, map, not, slice_index_or, take, true, ℕ, ⊤, ◌&&◌, ◌+◌, ◌<◌, ◌^◌, ◌||◌, ◌≡◌, ◌≢◌, ◌≤◌}
 use Rattle.std.specs.declared.cmp.Ordering.{Ordering}
 use Rattle.std.specs.declared.cmp.Ordering.TheVariants.{Equal, Greater, Less}
@@ -27,7 +29,7 @@ is_ready h = h.ended || not (is_used h)
 -- the head of an input, or of one that isn't there
 abbrev pub no_head : Head
 no_head =
-    record { chunk = record { types = []; rows = [] }; place = 0; rank = 0; ended = false }
+    record { chunk = record { types = []; rows = [] }; ranks = []; place = 0; ended = false }
 
 abbrev pub at : List Head → ℕ → Head
 at heads i = slice_index_or heads i no_head
@@ -35,26 +37,17 @@ at heads i = slice_index_or heads i no_head
 abbrev pub first_row : Head → Row
 first_row h = row_at h.chunk.rows h.place
 
--- row i is there, fits the order, and has the rank
-pub record IsRankAt (order : SortSpec) (t : Table) (i r : ℕ) : Type 0 where
-  pub within : i < length t.rows
-  pub fits : FitsOrder order t.types
-  pub table : IsTable t
-  pub ranks : IsRank order.keys (row_at t.rows i) r
+-- a head's rows fit the order, and have their ranks
+pub record IsRanked (order : SortSpec) (h : Head) : Type 0 where
+  pub fits : FitsOrder order h.chunk.types
+  pub table : IsTable h.chunk
+  pub places : map ranked_place h.ranks ≡ count_up (length h.chunk.rows)
+  pub ranks : All (HasRanks h.chunk order.keys) h.ranks
 
--- a head's first row, if it has one, has its rank
-abbrev pub IsRanked : SortSpec → Head → Type 0
-IsRanked order h = is_used h ≡ false → IsRankAt order h.chunk h.place h.rank
-
--- the heads of as many inputs as a node may have; a chunk of which rows are left fits the order
-pub record AreHeadsOf (order : SortSpec) (heads : List Head) : Type 0 where
-  pub count : length heads ≡ 32
-  pub fits : (i : ℕ) → is_used (at heads i) ≡ false → FitsOrder order (at heads i).chunk.types
-
--- as many heads, whose first rows have their ranks
+-- the heads of as many inputs as a node may have, with ranks where rows are left
 pub record AreRanked (order : SortSpec) (heads : List Head) : Type 0 where
   pub count : length heads ≡ 32
-  pub ranked : (i : ℕ) → IsRanked order (at heads i)
+  pub ranked : (i : ℕ) → is_used (at heads i) ≡ false → IsRanked order (at heads i)
 
 -- n heads without rows, whose ends weren't noted
 pub record AreBlank (n : ℕ) (heads : List Head) : Type 0 where
@@ -142,14 +135,8 @@ pub record IsRowRun (keys : List SortKey) (heads : List Head) (h : Head) (other 
       × (is_lt (row_cmp keys (row_at h.chunk.rows (h.place + n)) (first_row (at heads k))) ≡ false)
 
 -- so many more rows of the head are made
-pub record IsMoved (order : SortSpec) (n : ℕ) (old new : Head) : Type 0 where
+pub record IsMoved (n : ℕ) (old new : Head) : Type 0 where
   pub chunk : new.chunk ≡ old.chunk
+  pub ranks : new.ranks ≡ old.ranks
   pub place : new.place ≡ old.place + n
   pub ended : new.ended ≡ old.ended
-  pub ranked : IsRanked order new
-
--- the first n heads have their ranks
-pub record GivesRanks (order : SortSpec) (n : ℕ) (old new : List Head) : Type 0 where
-  pub count : length new ≡ length old
-  pub below : (i : ℕ) → i < n → IsMoved order 0 (at old i) (at new i)
-  pub above : (i : ℕ) → n ≤ i → at new i ≡ at old i

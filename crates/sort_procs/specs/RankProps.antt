@@ -1,7 +1,8 @@
--- That a rank is one is a proposition, so that a sort may keep it.
-use Rattle.chunk_data.specs.Names.{Row, value_at}
+-- That a rank is one is a proposition, so that sorts and merges may keep it.
+use Rattle.chunk_data.specs.Names.{FitsTypes, Row, value_at}
+use Rattle.chunk_data.specs.declared.typed_value.ColumnType.{ColumnType}
 use Rattle.query_model.specs.Prelude.{Int, SortKey, Text, UInt, Value}
-use Rattle.sort_procs.specs.Ranks.{IsRank, IsValueRank, in_direction}
+use Rattle.sort_procs.specs.Ranks.{IsRank, IsValueRank, in_direction, value_behind}
 use Rattle.std.specs.Prelude.{List, [], suc, zero, ℕ, ◌∷◌}
 use Rattle.std.proofs.Props.{props}
 unfoldable use Rattle.sort_procs.specs.Ranks.{AreBytes}
@@ -17,10 +18,21 @@ IsValueRank-prop (Int z) r = Prim.hlevel props
 IsValueRank-prop (UInt n) r = Prim.hlevel props
 IsValueRank-prop (Text bytes) r = Prim.hlevel (props, AreBytes-prop 7 bytes)
 
-pub IsRank-prop : (keys : List SortKey) (row : Row) (r : ℕ) → IsProp (IsRank keys row r)
-IsRank-prop [] row r = Prim.hlevel props
-IsRank-prop (key ∷ keys) row r = Prim.hlevel
-    (props, IsValueRank-prop (value_at row key.column) (in_direction key.descending r))
+pub IsRank-prop : (keys : List SortKey) (told : ℕ) (row : Row) (r : ℕ)
+    → IsProp (IsRank keys told row r)
+IsRank-prop [] told row r = Prim.hlevel props
+IsRank-prop (key ∷ keys) told row r = Prim.hlevel (
+  props,
+  IsValueRank-prop (value_behind told (value_at row key.column)) (in_direction key.descending r),
+)
 
--- for a ghost field of ranks
-pub ruleset rank_props = (props, IsRank-prop)
+pub FitsTypes-prop : (types : List ColumnType) (row : Row) → IsProp (FitsTypes types row)
+FitsTypes-prop [] [] = Prim.hlevel props
+FitsTypes-prop [] (v ∷ row) = Prim.hlevel props
+FitsTypes-prop (t ∷ types) [] = Prim.hlevel props
+FitsTypes-prop (t ∷ types) (Int z ∷ row) = Prim.hlevel (props, FitsTypes-prop types row)
+FitsTypes-prop (t ∷ types) (UInt n ∷ row) = Prim.hlevel (props, FitsTypes-prop types row)
+FitsTypes-prop (t ∷ types) (Text bytes ∷ row) = Prim.hlevel (props, FitsTypes-prop types row)
+
+-- for ghost fields of ranks
+pub ruleset rank_props = (props, IsRank-prop, FitsTypes-prop)

@@ -1,4 +1,4 @@
--- Numbers for each row that goes before the keys, so that most rows are compared by them alone.
+-- Numbers for each row that go before the keys, so that most rows are compared by them alone.
 use Rattle.chunk_data.specs.Names.{Row, Table, is_text, row_at, row_cmp, type_at, value_at}
 use Rattle.chunk_data.specs.declared.typed_value.ColumnType.{ColumnType}
 use Rattle.query_model.specs.Prelude.{All, Int, Ordering, SortKey, Text, UInt, Value}
@@ -43,10 +43,17 @@ pub record IsKeyRank (descending : Bool) (v : Value) (r : ℕ) : Type 0 where
   pub is : IsValueRank v (in_direction descending r)
   pub within : r < 2 ^ 64
 
--- a row's rank is that of its first key
-abbrev pub IsRank : List SortKey → Row → ℕ → Type 0
-IsRank [] row r = r ≡ 0
-IsRank (key ∷ keys) row r = IsKeyRank key.descending (value_at row key.column) r
+-- what follows the first n bytes of a text; a number has none
+abbrev pub value_behind : ℕ → Value → Value
+value_behind n (Int z) = Int z
+value_behind n (UInt m) = UInt m
+value_behind n (Text bytes) = Text (drop n bytes)
+
+-- a row's rank is that of its first key, of whose text so many bytes are told
+abbrev pub IsRank : List SortKey → (told : ℕ) → Row → ℕ → Type 0
+IsRank [] told row r = r ≡ 0
+IsRank (key ∷ keys) told row r =
+    IsKeyRank key.descending (value_behind told (value_at row key.column)) r
 
 -- whether a value of the type is told whole by its rank
 abbrev pub is_exact_value : ColumnType → ℕ → Bool
@@ -58,42 +65,56 @@ is_exact types [] r = false
 is_exact types (key ∷ keys) r =
     is_exact_value (type_at types key.column) (in_direction key.descending r)
 
--- the keys whose first has the second rank
-abbrev pub next_keys : List ColumnType → List SortKey → ℕ → List SortKey
-next_keys types keys r = cond (is_exact types keys r) (drop 1 keys) []
-
 -- the keys at which rows of the same rank r may differ
 abbrev pub keys_left : List ColumnType → List SortKey → ℕ → List SortKey
 keys_left types keys r = cond (is_exact types keys r) (drop 1 keys) keys
 
--- the same of both ranks
+-- how many bytes of the text of the first of these are told then
+abbrev pub bytes_told : List ColumnType → List SortKey → (told : ℕ) → ℕ → ℕ
+bytes_told types keys told r = cond (is_exact types keys r) 0 (told + 7)
+
+-- the keys at which rows of the same ranks may differ
 abbrev pub keys_tied : List ColumnType → List SortKey → Ranked → List SortKey
 keys_tied types keys r =
-    cond (is_exact types keys r.first) (keys_left types (drop 1 keys) r.second) keys
+    keys_left types (keys_left types (keys_left types keys r.first) r.second) r.third
 
 abbrev pub ranked_place : Ranked → ℕ
 ranked_place r = r.place
 
+-- a row's ranks, each of which goes on where those before it end
+pub record AreRanks (types : List ColumnType) (keys : List SortKey) (row : Row) (r : Ranked)
+    : Type 0 where
+  pub first : IsRank keys 0 row r.first
+  pub second : IsRank (keys_left types keys r.first) (bytes_told types keys 0 r.first) row r.second
+  pub third : IsRank (keys_left types (keys_left types keys r.first) r.second)
+      (bytes_told types (keys_left types keys r.first) (bytes_told types keys 0 r.first) r.second)
+      row r.third
+
 -- one of the rows, with its ranks
 pub record HasRanks (t : Table) (keys : List SortKey) (r : Ranked) : Type 0 where
   pub within : r.place < length t.rows
-  pub first : IsRank keys (row_at t.rows r.place) r.first
-  pub second : IsRank (next_keys t.types keys r.first) (row_at t.rows r.place) r.second
+  pub ranks : AreRanks t.types keys (row_at t.rows r.place) r
 
 -- where ranks were found, each is one of a row's
 abbrev pub HaveRanks : (found : Bool) → Table → List SortKey → List Ranked → Type 0
 HaveRanks found t keys ranks = found ≡ true → All (HasRanks t keys) ranks
 
 -- by the keys, and places past the last row behind all others
-abbrev pub place_cmp : List SortKey → List Row → ℕ → ℕ → Ordering
-place_cmp keys rows i j =
-    ordering_then (bool_cmp (leb (length rows) i) (leb (length rows) j))
-    (row_cmp keys (row_at rows i) (row_at rows j))
+abbrev pub place_cmp : List SortKey → (left right : List Row) → ℕ → ℕ → Ordering
+place_cmp keys left right i j =
+    ordering_then (bool_cmp (leb (length left) i) (leb (length right) j))
+    (row_cmp keys (row_at left i) (row_at right j))
 
-abbrev pub ranked_cmp : Table → List SortKey → Ranked → Ranked → Ordering
-ranked_cmp t keys a b =
+-- rows of two tables by their ranks, and by the keys of which these don't tell
+abbrev pub ranked_cmp : (left right : Table) → List SortKey → Ranked → Ranked → Ordering
+ranked_cmp left right keys a b =
     ordering_then (nat_cmp a.first b.first) (ordering_then (nat_cmp a.second b.second)
-    (place_cmp (keys_tied t.types keys a) t.rows a.place b.place))
+    (ordering_then (nat_cmp a.third b.third)
+    (place_cmp (keys_tied left.types keys a) left.rows right.rows a.place b.place)))
+
+-- whether one row of a table comes before another
+abbrev pub is_ranked_before : Table → List SortKey → Ranked → Ranked → Bool
+is_ranked_before t keys a b = is_lt (ranked_cmp t t keys a b)
 
 -- the rows at the places
 abbrev pub rows_at : List Row → List Ranked → List Row
@@ -102,13 +123,13 @@ rows_at rows ranks = map (λ (r : Ranked). row_at rows r.place) ranks
 -- none of those behind is before one of the front
 abbrev pub IsSplit : Table → List SortKey → (front behind : List Ranked) → Type 0
 IsSplit t keys front behind =
-    All (λ b. All (λ a. is_lt (ranked_cmp t keys b a) ≡ false) front) behind
+    All (λ b. All (λ a. is_ranked_before t keys b a ≡ false) front) behind
 
 -- the same ranks, of which the first so many are in order, and none of the others is before them
 pub record PutsFront (t : Table) (keys : List SortKey) (count : ℕ) (old new : List Ranked)
     : Type 0 where
   pub same : IsPermutation old new
-  pub sorted : IsSortedBy (λ a b. is_lt (ranked_cmp t keys a b)) (take count new)
+  pub sorted : IsSortedBy (is_ranked_before t keys) (take count new)
   pub split : IsSplit t keys (take count new) (drop count new)
 
 -- the same from a place on, before which nothing changes

@@ -1,24 +1,23 @@
 ghost use Rattle.std.specs.Prelude.{◌≡◌, ◌<◌, ◌≤◌, ◌+◌, ◌^◌, ◌&&◌, false, not, length};
 ghost use Rattle.std.specs.List.{list_all};
-ghost use Rattle.std.specs.Ordering.{is_lt, nat_cmp, ordering_then};
+ghost use Rattle.std.specs.Ordering.{is_lt};
 ghost use Rattle.chunk_data.specs.Names.{IsTable, row_at, row_cmp};
 ghost use Rattle.port_word.specs.Names.{in_count};
-ghost use Rattle.proc_api.specs.Names.{FitsOrder};
-ghost use Rattle.sort_procs.specs.Heads.{AreHeadsOf, AreRanked, AreUsedFrom, at, comes_before, first_row, GivesRanks, goes_by, HasRows, is_over_at, is_ready, is_used, IsFirstBut, IsMoved, IsRankAt, with_end_noted, NotesEnds};
+ghost use Rattle.sort_procs.specs.Heads.{AreRanked, AreUsedFrom, at, comes_before, first_row, goes_by, HasRows, is_over_at, is_ready, is_used, IsFirstBut, IsMoved, IsRanked, with_end_noted, NotesEnds};
 
-use crate::ranks::rank_of;
-use chunk_data::Chunk;
+use crate::ranks::{Ranked, compare_ranked};
+use chunk_data::{Chunk, List};
 use port_word::PortView;
 use query_model::processor_spec::SortSpec;
 use std::cmp::Ordering;
 
-/// What a merge holds of an input: its last chunk, of which so many rows were made, while rows are
-/// merged the rank of the next, and whether its end was noted.
+/// What a merge holds of an input: its last chunk, with the ranks of its rows, how many of these
+/// were made, and whether the input's end was noted.
 #[derive(Drop)]
 pub(crate) struct Head {
     pub(crate) chunk: Chunk,
+    pub(crate) ranks: List<Ranked>,
     pub(crate) place: usize,
-    pub(crate) rank: u64,
     pub(crate) ended: bool,
 }
 
@@ -132,104 +131,64 @@ fn goes_before(heads: &[Head], order: &SortSpec, i: usize, other: Option<usize>)
     }
     match other {
         None => true,
-        Some(k) => is_before(
-            &heads[i],
-            &heads[k].chunk,
-            heads[k].place,
-            heads[k].rank,
-            order,
-        ),
+        Some(k) => is_before(&heads[i], &heads[k], order),
     }
 }
 
-// Whether the head's first row comes before row i of the chunk, which has the rank.
-#[tactic(auto, using(crate::proofs::HeadLaws::ranks_tell))]
-fn is_before(head: &Head, chunk: &Chunk, i: usize, rank: u64, order: &SortSpec) -> bool
-    requires here { IsRankAt order.now head.now.chunk head.now.place head.now.rank }
-    requires there { IsRankAt order.now chunk.now i rank }
+// Whether the head's first row comes before the other's.
+fn is_before(head: &Head, other: &Head, order: &SortSpec) -> bool
+    requires here { IsRanked order.now head.now }
+    requires some { is_used head.now ≡ false }
+    requires there { IsRanked order.now other.now }
+    requires more { is_used other.now ≡ false }
     ensures { result
-        ≡ is_lt (row_cmp order.now.keys (first_row head.now) (row_at chunk.now.rows i)) }
+        ≡ is_lt (row_cmp order.now.keys (first_row head.now) (first_row other.now)) }
 {
-    compare_first(head, chunk, i, rank, order).is_lt()
+    compare_first(head, other, other.place, order).is_lt()
 }
 
-/// Whether the head's first row goes before row i of the chunk, which has the rank; where they tie,
-/// unless the chunk's goes first.
-#[tactic(auto, using(crate::proofs::HeadLaws::ranks_tell))]
+/// Whether the head's first row goes before row i of the other's; where they tie, unless the
+/// other's goes first.
 pub(crate) fn goes_first(
     head: &Head,
-    chunk: &Chunk,
+    other: &Head,
     i: usize,
-    rank: u64,
     order: &SortSpec,
-    chunk_first: bool,
+    other_first: bool,
 ) -> bool
-    requires here { IsRankAt order.now head.now.chunk head.now.place head.now.rank }
-    requires there { IsRankAt order.now chunk.now i rank }
-    ensures { result ≡ goes_by chunk_first
-        (row_cmp order.now.keys (first_row head.now) (row_at chunk.now.rows i)) }
+    requires here { IsRanked order.now head.now }
+    requires some { is_used head.now ≡ false }
+    requires there { IsRanked order.now other.now }
+    requires within { i < length other.now.chunk.rows }
+    ensures { result ≡ goes_by other_first
+        (row_cmp order.now.keys (first_row head.now) (row_at other.now.chunk.rows i)) }
 {
-    match compare_first(head, chunk, i, rank, order) {
+    match compare_first(head, other, i, order) {
         Ordering::Less => true,
-        Ordering::Equal => !chunk_first,
+        Ordering::Equal => !other_first,
         Ordering::Greater => false,
     }
 }
 
-// How they compare: by their ranks, and where these are the same by the keys.
-fn compare_first(head: &Head, chunk: &Chunk, i: usize, rank: u64, order: &SortSpec) -> Ordering
-    requires here { IsRankAt order.now head.now.chunk head.now.place head.now.rank }
-    requires there { IsRankAt order.now chunk.now i rank }
-    ensures { result ≡ ordering_then (nat_cmp head.now.rank rank)
-        (row_cmp order.now.keys (first_row head.now) (row_at chunk.now.rows i)) }
+// How the head's first row compares with row i of the other's.
+fn compare_first(head: &Head, other: &Head, i: usize, order: &SortSpec) -> Ordering
+    requires here { IsRanked order.now head.now }
+    requires some { is_used head.now ≡ false }
+    requires there { IsRanked order.now other.now }
+    requires within { i < length other.now.chunk.rows }
+    ensures { result
+        ≡ row_cmp order.now.keys (first_row head.now) (row_at other.now.chunk.rows i) }
 {
-    match head.rank.cmp(&rank) {
-        Ordering::Equal => head
-            .chunk
-            .compare_rows(head.place, chunk, i, order.keys.as_slice()),
-        unequal => unequal,
-    }
-}
-
-/// The rank of row i, where it is there.
-pub(crate) fn row_rank(order: &SortSpec, chunk: &Chunk, i: usize) -> u64
-    requires { FitsOrder order.now chunk.now.types }
-    ensures { i < length chunk.now.rows → IsRankAt order.now chunk.now i result }
-{
-    if i < chunk.rows() {
-        rank_of(chunk, order.keys.as_slice(), i)
-    } else {
-        0
-    }
-}
-
-/// Gives the first row of each head its rank.
-pub(crate) fn rank_heads(heads: &mut [Head], order: &SortSpec)
-    requires { AreHeadsOf order.now heads.old }
-    ensures { GivesRanks order.now (length heads.old) heads.old heads.new }
-{
-    for i in 0..heads.len() {
-        rank_head(&mut heads[i], order);
-    }
-}
-
-// Gives the first row its rank.
-fn rank_head(head: &mut Head, order: &SortSpec)
-    requires { is_used head.old ≡ false → FitsOrder order.now head.old.chunk.types }
-    ensures { IsMoved order.now 0 head.old head.new }
-{
-    if !head.is_used() {
-        head.rank = row_rank(order, &head.chunk, head.place);
-    }
+    let first = *head.ranks.get(head.place);
+    let row = *other.ranks.get(i);
+    let keys = order.keys.as_slice();
+    compare_ranked(&head.chunk, &other.chunk, keys, first, row)
 }
 
 /// Counts so many more of the head's rows as made.
-pub(crate) fn move_head(head: &mut Head, order: &SortSpec, n: usize)
-    requires fits { FitsOrder order.now head.old.chunk.types }
-    requires within { head.old.place + n ≤ length head.old.chunk.rows }
-    requires room { head.old.place + n < 2 ^ 64 }
-    ensures { IsMoved order.now n head.old head.new }
+pub(crate) fn move_head(head: &mut Head, n: usize)
+    requires { head.old.place + n < 2 ^ 64 }
+    ensures { IsMoved n head.old head.new }
 {
     head.place += n;
-    head.rank = row_rank(order, &head.chunk, head.place);
 }

@@ -1,10 +1,12 @@
 ghost use Rattle.std.specs.Prelude.{IfOk};
-ghost use Rattle.sort_procs.specs.Heads.{AreBlank, AreHeadsOf};
+ghost use Rattle.sort_procs.specs.Heads.{AreBlank, AreRanked};
+ghost use Rattle.sort_procs.specs.RankProps.{rank_props};
 
 use crate::fitting::fits_order;
 use crate::heads::{Head, can_make, note_ends};
 use crate::merged_rows::merge_chunk;
-use chunk_data::{Chunk, Memory};
+use crate::ranks::ranks_of;
+use chunk_data::{Chunk, List, Memory};
 use port_word::PortView;
 use proc_api::WorkFault;
 use proc_shell::{Kernel, Offer, Shell};
@@ -20,7 +22,7 @@ pub type MergeSorted = Shell<Merging>;
 pub struct Merging {
     order: SortSpec,
     heads: Vec<Head>,
-    ghost are: { AreHeadsOf order heads.items },
+    ghost are: { AreRanked order heads.items } by { Prim.hlevel rank_props },
 }
 
 // Heads without rows.
@@ -32,8 +34,8 @@ fn no_heads(alloc: Global, order: &SortSpec) -> Result<Vec<Head>, Memory>
         let chunk = Chunk::new(alloc, &order.types)?;
         heads.push(Head {
             chunk,
+            ranks: List::new(alloc),
             place: 0,
-            rank: 0,
             ended: false,
         })?;
     }
@@ -92,12 +94,7 @@ impl Kernel for Merging {
         input >= self.heads.len() || self.heads[input].is_used()
     }
 
-    fn take(
-        &mut self,
-        _alloc: Global,
-        input: usize,
-        chunk: Chunk,
-    ) -> Result<Option<Chunk>, Memory> {
+    fn take(&mut self, alloc: Global, input: usize, chunk: Chunk) -> Result<Option<Chunk>, Memory> {
         if !fits_order(&self.order, &chunk) {
             return Ok(None);
         }
@@ -105,13 +102,18 @@ impl Kernel for Merging {
         if self.heads[input].ended {
             return Err(Memory);
         }
-        self.heads[input] = Head {
-            chunk,
-            place: 0,
-            rank: 0,
-            ended: false,
-        };
-        Ok(None)
+        match ranks_of(alloc, &chunk, self.order.keys.as_slice()) {
+            Ok(ranks) => {
+                self.heads[input] = Head {
+                    chunk,
+                    ranks: List::from_vec(ranks),
+                    place: 0,
+                    ended: false,
+                };
+                Ok(None)
+            }
+            Err(memory) => Err(memory),
+        }
     }
 
     fn make(&mut self, alloc: Global) -> Result<Option<Chunk>, WorkFault> {

@@ -1,10 +1,10 @@
-ghost use Rattle.std.specs.Prelude.{◌≡◌, ◌++◌, ◌+◌, ◌<◌, ◌≤◌, ◌^◌, length, true, OnOk, IfOk};
+ghost use Rattle.std.specs.Prelude.{◌≡◌, ◌++◌, ◌+◌, ◌<◌, ◌≤◌, ◌^◌, false, length, true, OnOk, IfOk};
 ghost use Rattle.std.specs.List.{list_all};
 ghost use Rattle.proc_api.specs.kinds.MergeSorted.{IsBeforeNone};
-ghost use Rattle.sort_procs.specs.Heads.{AreHeadsOf, AreRanked, at, first_row, GoesFirst, IsRankAt, IsRowRun, IsRunBefore, is_ready, next_rows};
+ghost use Rattle.sort_procs.specs.Heads.{AreRanked, at, first_row, GoesFirst, IsRanked, IsRowRun, IsRunBefore, is_ready, is_used, next_rows};
 ghost use Rattle.sort_procs.specs.Merging.{MergesSome};
 
-use crate::heads::{Head, first_but, goes_first, heads_in_use, move_head, rank_heads, row_rank};
+use crate::heads::{Head, first_but, goes_first, heads_in_use, move_head};
 use chunk_data::{Chunk, Memory};
 use query_model::processor_spec::SortSpec;
 use std::alloc::Global;
@@ -17,14 +17,13 @@ pub(crate) fn merge_chunk(
     heads: &mut [Head],
     order: &SortSpec,
 ) -> Result<Chunk, Memory>
-    requires heads { AreHeadsOf order.now heads.old }
+    requires heads { AreRanked order.now heads.old }
     requires ready { list_all is_ready heads.old ≡ true }
-    ensures heads { AreHeadsOf order.now heads.new }
+    ensures heads { AreRanked order.now heads.new }
     ensures merges { IfOk result (λ c. MergesSome order.now heads.old heads.new c) }
 {
     let mut chunk = Chunk::new(alloc, &order.types)?;
     let most = (order.rows as usize).max(1);
-    rank_heads(heads, order);
     let count = heads_in_use(heads);
     let mut first = first_but(heads, order, count, count);
     'fill: while chunk.rows() < most {
@@ -34,7 +33,7 @@ pub(crate) fn merge_chunk(
         let second = first_but(heads, order, i, count);
         let run = run_length(heads, order, i, second, most - chunk.rows());
         append_next(&mut chunk, &heads[i], run)?;
-        move_head(&mut heads[i], order, run);
+        move_head(&mut heads[i], run);
         if !heads[i].is_ready() {
             return Ok(chunk);
         }
@@ -66,8 +65,9 @@ fn run_length(
 // How many of the head's next rows, at most so many, go before the other's first, as those do that
 // tie with it where the head is the lower. Each is looked at, since inputs may be out of order.
 fn run_before(head: &Head, other: &Head, order: &SortSpec, most: usize, lower: bool) -> usize
-    requires here { IsRankAt order.now head.now.chunk head.now.place head.now.rank }
-    requires there { IsRankAt order.now other.now.chunk other.now.place other.now.rank }
+    requires here { IsRanked order.now head.now }
+    requires there { IsRanked order.now other.now }
+    requires unused { is_used other.now ≡ false }
     requires some { 0 < most }
     requires few { head.now.place + most ≤ length head.now.chunk.rows }
     requires fits { head.now.place + most < 2 ^ 64 }
@@ -75,8 +75,7 @@ fn run_before(head: &Head, other: &Head, order: &SortSpec, most: usize, lower: b
     ensures { IsRunBefore order.now.keys head.now other.now most result }
 {
     for n in 1..most {
-        let rank = row_rank(order, &head.chunk, head.place + n);
-        if goes_first(other, &head.chunk, head.place + n, rank, order, lower) {
+        if goes_first(other, head, head.place + n, order, lower) {
             return n;
         }
     }

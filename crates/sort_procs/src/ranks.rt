@@ -3,20 +3,21 @@ ghost use Rattle.std.specs.List.{All};
 ghost use Rattle.chunk_data.specs.Names.{values, AgreeOnKey, IsTable, value_at, row_at};
 ghost use Rattle.chunk_data.specs.declared.typed_value.Value.TheVariants.{Text};
 ghost use Rattle.query_model.specs.Sources.{count_up};
-ghost use Rattle.sort_procs.specs.Ranks.{digit, HasRanks, is_exact, IsKeyRank, IsRank, IsValueRank, keys_tied, next_keys, in_direction, place_cmp, ranked_place, ranked_cmp, rows_at, IsSplit, PutsFront, PutsMore};
-ghost use Rattle.std.specs.Ordering.{is_lt};
+ghost use Rattle.sort_procs.specs.Ranks.{bytes_told, digit, HasRanks, is_exact, IsKeyRank, IsRank, IsValueRank, keys_left, keys_tied, in_direction, is_ranked_before, place_cmp, ranked_place, ranked_cmp, rows_at, value_behind, IsSplit, PutsFront, PutsMore};
 
 use chunk_data::{Chunk, Column, Memory, PlainSlice, SortKey};
 use std::alloc::Global;
 use std::cmp::Ordering;
 
-/// A row by its place, with the ranks of its first two keys, which go before the keys: the first
-/// is lower only where the row comes first, and the second where the first are the same. Where the
-/// first isn't exact the second is 0.
+/// A row by its place, with three ranks that go before the keys. The first is that of the first
+/// key, and each of the others goes on where the one before it ends: at the next key, or within a
+/// text at the bytes behind those that it tells. So each is lower only where the row comes first,
+/// among rows that have the ranks before it.
 #[derive(Clone, Copy, PartialEq, Eq)]
 pub(crate) struct Ranked {
     pub(crate) first: u64,
     pub(crate) second: u64,
+    pub(crate) third: u64,
     pub(crate) place: usize,
 }
 
@@ -129,18 +130,18 @@ fn is_before(rows: &Chunk, keys: &[SortKey], ranks: &[Ranked], i: usize, pivot: 
     requires keys { All (AgreeOnKey rows.now.types rows.now.types) keys.now }
     requires here { i < length ranks.now }
     ensures { result
-        ≡ is_lt (ranked_cmp rows.now keys.now (slice_index_or ranks.now i pivot) pivot) }
+        ≡ is_ranked_before rows.now keys.now (slice_index_or ranks.now i pivot) pivot }
 {
-    compare_ranked(rows, keys, ranks[i], pivot).is_lt()
+    compare_ranked(rows, rows, keys, ranks[i], pivot).is_lt()
 }
 
 // Puts the ranks in order.
 fn sort_ranks(rows: &Chunk, keys: &[SortKey], ranks: &mut [Ranked])
     requires { All (AgreeOnKey rows.now.types rows.now.types) keys.now }
     ensures same { IsPermutation ranks.old ranks.new }
-    ensures sorted { IsSortedBy (λ a b. is_lt (ranked_cmp rows.now keys.now a b)) ranks.new }
+    ensures sorted { IsSortedBy (is_ranked_before rows.now keys.now) ranks.new }
 {
-    ranks.sort_unstable_by(|a, b| compare_ranked(rows, keys, *a, *b));
+    ranks.sort_unstable_by(|a, b| compare_ranked(rows, rows, keys, *a, *b));
 }
 
 /// The rows at the places.
@@ -166,27 +167,58 @@ pub(crate) fn ranks_of(alloc: Global, rows: &Chunk, keys: &[SortKey]) -> Result<
     let n = rows.rows();
     let mut ranks = Vec::with_capacity(alloc, n)?;
     for place in 0..n {
-        let first = rank_of(rows, keys, place);
-        let second = second_rank(rows, keys, first, place);
-        ranks.push(Ranked {
-            first,
-            second,
-            place,
-        })?;
+        ranks.push(rank_row(rows, keys, place))?;
     }
     Ok(ranks)
 }
 
-// The rank of the row's second key, where that of the first is exact.
-fn second_rank(rows: &Chunk, keys: &[SortKey], first: u64, place: usize) -> u64
+// The row at a place, with its ranks.
+#[tactic(auto, using(crate::proofs::RankLaws::has_ranks))]
+fn rank_row(rows: &Chunk, keys: &[SortKey], place: usize) -> Ranked
     requires here { place < length rows.now.rows }
     requires keys { All (AgreeOnKey rows.now.types rows.now.types) keys.now }
-    ensures { IsRank (next_keys rows.now.types keys.now first) (row_at rows.now.rows place) result }
+    ensures place { result.place ≡ place }
+    ensures ranks { HasRanks rows.now keys.now result }
 {
-    if is_exact(rows, keys, first) {
-        rank_of(rows, &keys[1..], place)
+    let first = rank_of(rows, keys, 0, place);
+    let behind = keys_left(rows, keys, first);
+    let told = bytes_told(rows, keys, 0, first);
+    let second = rank_of(rows, behind, told, place);
+    let last = keys_left(rows, behind, second);
+    let last_told = bytes_told(rows, behind, told, second);
+    let third = rank_of(rows, last, last_told, place);
+    Ranked {
+        first,
+        second,
+        third,
+        place,
+    }
+}
+
+// The keys at which rows whose first has this rank may differ.
+fn keys_left<'a>(rows: &Chunk, keys: &'a [SortKey], rank: u64) -> &'a [SortKey]
+    requires { All (AgreeOnKey rows.now.types rows.now.types) keys.now }
+    ensures left { result.now ≡ keys_left rows.now.types keys.now rank }
+    ensures keys { All (AgreeOnKey rows.now.types rows.now.types) result.now }
+{
+    if is_exact(rows, keys, rank) {
+        &keys[1..]
     } else {
+        keys
+    }
+}
+
+// How many bytes of the text of the first of these keys are told by this rank and those before it.
+fn bytes_told(rows: &Chunk, keys: &[SortKey], told: usize, rank: u64) -> usize
+    requires keys { All (AgreeOnKey rows.now.types rows.now.types) keys.now }
+    requires few { told + 7 < 2 ^ 64 }
+    ensures told { result ≡ bytes_told rows.now.types keys.now told rank }
+    ensures few { result ≤ told + 7 }
+{
+    if is_exact(rows, keys, rank) {
         0
+    } else {
+        told + 7
     }
 }
 
@@ -205,27 +237,45 @@ fn is_exact(rows: &Chunk, keys: &[SortKey], rank: u64) -> bool
     }
 }
 
-/// The rank of the row at a place: that of its first key, which goes before the others.
-pub(crate) fn rank_of(rows: &Chunk, keys: &[SortKey], place: usize) -> u64
+/// The rank of the row at a place: that of its first key, behind the bytes of its text that are
+/// told.
+pub(crate) fn rank_of(rows: &Chunk, keys: &[SortKey], told: usize, place: usize) -> u64
     requires here { place < length rows.now.rows }
     requires keys { All (AgreeOnKey rows.now.types rows.now.types) keys.now }
-    ensures { IsRank keys.now (row_at rows.now.rows place) result }
+    ensures { IsRank keys.now told (row_at rows.now.rows place) result }
 {
     match keys.first() {
-        Some(key) => rank_at(rows.column(key.column as usize), key.descending, place),
+        Some(key) => rank_at(
+            rows.column(key.column as usize),
+            key.descending,
+            told,
+            place,
+        ),
         None => 0,
     }
 }
 
-// How two rows compare: by their ranks, and where these are the same by the keys of which they
-// don't tell.
-fn compare_ranked(rows: &Chunk, keys: &[SortKey], a: Ranked, b: Ranked) -> Ordering
-    requires { All (AgreeOnKey rows.now.types rows.now.types) keys.now }
-    ensures { result ≡ ranked_cmp rows.now keys.now a b }
+/// How rows of two chunks compare: by their ranks, and where these are the same by the keys of
+/// which they don't tell.
+pub(crate) fn compare_ranked(
+    left: &Chunk,
+    right: &Chunk,
+    keys: &[SortKey],
+    a: Ranked,
+    b: Ranked,
+) -> Ordering
+    requires types { left.now.types ≡ right.now.types }
+    requires keys { All (AgreeOnKey left.now.types left.now.types) keys.now }
+    ensures { result ≡ ranked_cmp left.now right.now keys.now a b }
 {
     match a.first.cmp(&b.first) {
         Ordering::Equal => match a.second.cmp(&b.second) {
-            Ordering::Equal => compare_places(rows, tied_keys(rows, keys, a), a.place, b.place),
+            Ordering::Equal => match a.third.cmp(&b.third) {
+                Ordering::Equal => {
+                    compare_places(left, right, tied_keys(left, keys, a), a.place, b.place)
+                }
+                unequal => unequal,
+            },
             unequal => unequal,
         },
         unequal => unequal,
@@ -238,35 +288,33 @@ fn tied_keys<'a>(rows: &Chunk, keys: &'a [SortKey], ranked: Ranked) -> &'a [Sort
     ensures tied { result.now ≡ keys_tied rows.now.types keys.now ranked }
     ensures keys { All (AgreeOnKey rows.now.types rows.now.types) result.now }
 {
-    if !is_exact(rows, keys, ranked.first) {
-        keys
-    } else if is_exact(rows, &keys[1..], ranked.second) {
-        &keys[2..]
-    } else {
-        &keys[1..]
-    }
+    let behind = keys_left(rows, keys, ranked.first);
+    let last = keys_left(rows, behind, ranked.second);
+    keys_left(rows, last, ranked.third)
 }
 
-// How the rows at two places compare by the keys. Places past the last row come behind all others.
+// How rows of two chunks compare by the keys. Places past the last row come behind all others.
 #[tactic(auto, using(crate::proofs::RankLaws::places_out))]
-fn compare_places(rows: &Chunk, keys: &[SortKey], i: usize, j: usize) -> Ordering
-    requires { All (AgreeOnKey rows.now.types rows.now.types) keys.now }
-    ensures { result ≡ place_cmp keys.now rows.now.rows i j }
+fn compare_places(left: &Chunk, right: &Chunk, keys: &[SortKey], i: usize, j: usize) -> Ordering
+    requires types { left.now.types ≡ right.now.types }
+    requires keys { All (AgreeOnKey left.now.types left.now.types) keys.now }
+    ensures { result ≡ place_cmp keys.now left.now.rows right.now.rows i j }
 {
-    let n = rows.rows();
-    if i < n && j < n {
-        rows.compare_rows(i, rows, j, keys)
+    let n = left.rows();
+    let m = right.rows();
+    if i < n && j < m {
+        left.compare_rows(i, right, j, keys)
     } else {
-        (n <= i).cmp(&(n <= j))
+        (n <= i).cmp(&(m <= j))
     }
 }
 
-// The rank of a value, as a key has it.
-fn rank_at(column: &Column, descending: bool, i: usize) -> u64
+// The rank of a value behind the bytes that are told, as a key has it.
+fn rank_at(column: &Column, descending: bool, told: usize, i: usize) -> u64
     requires { i < length (values column.now) }
-    ensures { IsKeyRank descending (value_at (values column.now) i) result }
+    ensures { IsKeyRank descending (value_behind told (value_at (values column.now) i)) result }
 {
-    in_direction(descending, value_rank(column, i))
+    in_direction(descending, value_rank(column, told, i))
 }
 
 // The rank in the order of a key, which may turn that of the values round.
@@ -276,15 +324,28 @@ fn in_direction(descending: bool, rank: u64) -> u64
     if descending { u64::MAX - rank } else { rank }
 }
 
-// A number that is lower only where the value comes first in its column.
-fn value_rank(column: &Column, i: usize) -> u64
+// A number that is lower only where the value comes first in its column, among the texts that begin
+// with the bytes that are told.
+fn value_rank(column: &Column, told: usize, i: usize) -> u64
     requires { i < length (values column.now) }
-    ensures { IsValueRank (value_at (values column.now) i) result }
+    ensures { IsValueRank (value_behind told (value_at (values column.now) i)) result }
 {
     match column.plain() {
         PlainSlice::Ints(numbers) => int_rank(numbers[i]),
         PlainSlice::UInts(numbers) => numbers[i],
-        PlainSlice::Texts(texts) => text_rank(texts.get(i)),
+        PlainSlice::Texts(texts) => text_rank(bytes_behind(texts.get(i), told)),
+    }
+}
+
+// What follows the first n bytes.
+#[tactic(auto, using(crate::proofs::Imports::drop_all))]
+fn bytes_behind(bytes: &[u8], n: usize) -> &[u8]
+    ensures { result.now ≡ drop n bytes.now }
+{
+    if n < bytes.len() {
+        &bytes[n..]
+    } else {
+        &bytes[bytes.len()..]
     }
 }
 

@@ -1,23 +1,19 @@
-use Rattle.std.proofs.Common.{arith, subst, sym, ◌∙◌, inl, inr}
-use Rattle.sort_procs.proofs.Imports.{IsFirstBut, Merges}
-use Rattle.sort_procs.proofs.MergeLaws.{none-left, ranked-fit, ranks-given, run-made, still-ready}
+use Rattle.std.proofs.Common.{arith, subst, ◌∙◌, inl, inr}
+use Rattle.sort_procs.proofs.Imports.{IsFirstBut}
+use Rattle.sort_procs.proofs.MergeLaws.{none-left, none-merged, run-made, still-ready}
 use Rattle.sort_procs.proofs.merged_rows.merge_chunk.Goals as goal
 
 pub fill-init : goal.fill-init
-fill-init c =
-    let g = ranks-given c.args.order.now c.args.heads.now c.rank_heads.new.heads c.requires.heads
-    c.requires.ready c.rank_heads.ensures in
-    record {
-      are = g.0;
-      ready = g.1;
-      types = c.in_ok-chunk.ensures.types;
-      few = grind arith;
-      merges = subst (Merges c.args.order.now.keys c.args.heads.now c.rank_heads.new.heads)
-          (sym c.in_ok-chunk.ensures.rows) g.2;
-      within = c.heads_in_use-count.ensures.few;
-      behind = c.heads_in_use-count.ensures.behind;
-      first = λ less. c.first_but-first.ensures;
-    }
+fill-init c = record {
+  are = c.requires.heads;
+  ready = c.requires.ready;
+  types = c.in_ok-chunk.ensures.types;
+  few = grind arith;
+  merges = none-merged c.args.order.now.keys c.args.heads.now _ c.in_ok-chunk.ensures.rows;
+  within = c.heads_in_use-count.ensures.few;
+  behind = c.heads_in_use-count.ensures.behind;
+  first = λ less. c.first_but-first.ensures;
+}
 
 pub returns-in_default-clause-merges : goal.returns-in_default-clause-merges
 returns-in_default-clause-merges c =
@@ -38,7 +34,7 @@ returns-then-not-is_ready-clause-heads c =
     let s = run-made l.merges l.are l.ready l.behind l.within first c.first_but-second.ensures
     c.run_length-run.ensures c.index-heads-i.is c.index-heads-i-in-fill.is
     c.in_ok-append_next.ensures.ok c.move_head.ensures in
-    ranked-fit c.args.order.now _ s.fits
+    s.fits
 
 pub returns-then-not-is_ready-clause-merges : goal.returns-then-not-is_ready-clause-merges
 returns-then-not-is_ready-clause-merges c =

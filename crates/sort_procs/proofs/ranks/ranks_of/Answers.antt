@@ -1,5 +1,3 @@
-use Rattle.std.proofs.Common.{arith}
-use Rattle.std.proofs.lemmas.Grind.{common_steps}
 use Rattle.sort_procs.proofs.RankLaws.{ranks-more, ranks-none}
 use Rattle.sort_procs.proofs.ranks.ranks_of.Goals as goal
 
@@ -10,4 +8,9 @@ loop-place-init c =
     record { places = r.0; ranked = r.1 }
 
 pub loop-place-preserved : goal.loop-place-preserved
-loop-place-preserved c = grind (arith, common_steps, ranks-more)
+loop-place-preserved c =
+    let s = c.loop-place.invariant in
+    let r = ranks-more c.args.rows.now c.args.keys.now c.loop-place.ranks.items
+    c.push.new.self.items c.loop-place.place c.rank_row.result c.rank_row.ensures.place
+    c.rank_row.ensures.ranks c.in_ok-push.ensures.items s.places s.ranked in
+    record { places = r.0; ranked = r.1 }
