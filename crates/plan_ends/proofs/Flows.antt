@@ -1,7 +1,6 @@
 -- The rows that the nodes of each kind pulled in a run of a query's plan are the kind's flow.
 use Rattle.plan_ends.proofs.Imports.{Checked, ColumnType, Cond, Database, DraftNode, Grouped, HasCalls, IsPlanOf, IsTold, Kind, NodeForm, NodePort, RowsOfSources, Plain, Row, SelectPlan, Shape, SortKey, SortSpec, Stream, rows_together, body_nodes, by-forms, collect_node, count_over, filter_pulls, filtered_rows, flow, forms, gather_pulls, groups-selected, groups_tested, if_grouped, if_ordered, if_plain, join_pulls, kind-same, kind_of, length-map, none-of, of_kind, order_of, plan_nodes, plan_pulls, ports_of, pulled_rows, rows_joined, stream_rows, rows_tested, same_kind, selected_rows, shape_of, shape_pulls, sort_pulls, source_rows, source_table, sum_by-append, sum_by-cons, used_table, Bool, IfSome, List, None, Option, [], ap, ap₂, arith, cond, false, length, length-append, map, refl, suc, sym, true, ℕ, ◌++◌, ◌+◌, ◌∙◌, ◌∷◌, ◌≡◌}
 use Rattle.query_model.specs.declared.processor_spec.Kind.TheVariants as kind
-use Rattle.query_model.specs.declared.processor_spec.Spec.TheVariants as spec
 
 -- ---- lists of nodes
 

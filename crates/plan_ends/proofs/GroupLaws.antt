@@ -1,5 +1,5 @@
 -- What a partial aggregate and a merge of groups keep is what they give.
-use Rattle.plan_ends.proofs.Imports.{FitsGroups, KeepsWorked, arith, IsPermutation, List, refl, sym, ◌++◌, ◌∙◌, ◌≡◌, GroupSpec, IsPermutation-refl, Row, Spec, all_done, rows_together, chunk_rows, first_rows, merged_rows, partial_rows, partial_types, stream_rows, KindGives, in_stream}
+use Rattle.plan_ends.proofs.Imports.{FitsGroups, KeepsWorked, arith, IsPermutation, List, refl, sym, ◌∙◌, ◌≡◌, GroupSpec, IsPermutation-refl, Row, Spec, all_done, rows_together, chunk_rows, first_rows, merged_rows, partial_rows, partial_types, stream_rows, KindGives, in_stream}
 use Rattle.query_model.specs.declared.processor_spec.Spec.TheVariants as spec
 use Rattle.plan_ends.proofs.KindLaws.{at-ports, kept-rows, one-fits, one-output}
 use Rattle.plan_ends.proofs.ResizeLaws.{all-done, all-ports, at_ports}

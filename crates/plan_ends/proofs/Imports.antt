@@ -28,7 +28,7 @@ pub use Rattle.plan_meaning.proofs.Imports.{AggCall, AggOp, All-from_recursion, 
 pub use Rattle.plan_meaning.proofs.Queries.{groups-selected, query-answers, shape-selects}
 pub use Rattle.plan_meaning.proofs.Same.{SameSpec, by-forms, each-same, graphs-same, kind-same, same-spec}
 pub use Rattle.plan_meaning.proofs.Typing.{each-typed, typed-all, typed-append}
-pub use Rattle.plan_meaning.specs.Names.{AllPull, AllTyped, EachGivesIf, FitFrom, Flow, Gives, GivesFront, GivesHeld, GivesIf, GivesJoined, GivesListed, GivesMerged, GivesResized, GivesSource, GivesThrough, HasCalls, HasEnoughRows, HasRun, HoldsBack, IsAmong, IsCall, IsCut, IsFront, IsPlan, IsPlanOf, IsSmall, IsSourceSpec, IsTold, JoinsSources, MakesRows, MakesType, NodeForm, PlanJoin, PlanShape, Pulls, RowsOfSources, SelectPlan, SourceRows, Stream, Types, TypesFit, TypesTo, all_certain, all_done, all_valid, any_done, any_needs, body_nodes, call_arguments, collect_node, collector, column_items, count_over, filter_nodes, filter_pulls, flow_rows, flows_of, forms, gather_nodes, gather_pulls, group_spec, grouped, is_valid_source, join_pulls, join_valid, lane_steps, limit_nodes, merged_rows, needed_valid, node_form, of_kind, partial_rows, plain, plan_keys, plan_nodes, plan_pulls, plan_rows, plan_valid, pulled_rows, pulled_types, pulls, read_nodes, read_rows, read_steps, read_valid, rows_together, select_steps, shape_nodes, shape_of, shape_pulls, shape_rows, sort_nodes, sort_pulls, source_list, sources_rows, state_call, stream_rows, join_step, sort_step, merge_step}
+pub use Rattle.plan_meaning.specs.Names.{AllPull, AllTyped, EachGivesIf, FitFrom, Flow, Gives, GivesFront, GivesHeld, GivesIf, GivesJoined, GivesListed, GivesMerged, GivesResized, GivesSource, GivesThrough, HasCalls, HasEnoughRows, HasRun, HoldsBack, IsAmong, IsCall, IsCut, IsFront, IsPlan, IsPlanOf, IsSmall, IsSourceSpec, IsTold, JoinsSources, MakesRows, MakesType, NodeForm, PlanJoin, PlanShape, Pulls, RowsOfSources, SelectPlan, SourceRows, Stream, Types, TypesFit, TypesTo, all_certain, all_done, all_valid, any_done, any_needs, body_nodes, call_arguments, collect_node, collector, column_items, count_over, filter_nodes, filter_pulls, flow_rows, flows_of, forms, gather_nodes, gather_pulls, group_spec, grouped, is_valid_source, join_pulls, join_valid, lane_steps, limit_nodes, merged_rows, needed_valid, node_form, of_kind, partial_rows, plain, plan_keys, plan_nodes, plan_pulls, plan_rows, plan_valid, pulled_rows, pulled_types, pulls, read_nodes, read_rows, read_steps, read_valid, rows_together, second_resize, select_steps, shape_nodes, shape_of, shape_pulls, shape_rows, sort_nodes, sort_pulls, source_list, sources_rows, state_call, stream_rows, join_step, sort_step, merge_step}
 pub use Rattle.plan_meaning.specs.Prelude.{AllZip, Any, Contains, is_lt, spec_group_types}
 pub use Rattle.proc_api.proofs.Keeping.{KeepsWorked, rows-append, worked-where-fit}
 pub use Rattle.proc_api.proofs.KeptFlags.{may-be-input, past-open}

@@ -1,6 +1,6 @@
 -- How many boxes a query needs, by its tables and by which clauses it has.
 use Rattle.std.proofs.lemmas.Grind.{common_steps}
-use Rattle.plan_ends.proofs.Imports.{Bool, List, None, Option, [], arith, cond, false, is_some, length, sum_by, true, ℕ, ◌*◌, ◌+◌, ◌∷◌, ◌≡◌, ◌≤◌, Checked, CheckedJoin, Cond, Grouped, Kind, Numbers, PartsDecl, Plain, Shape, SortKey, Span, TableDecl, TableUse, crowded, few-paths, few-uses, first_crowded, having_need, if_filtered, if_grouped, if_joined, if_limited, if_ordered, if_plain, join_use, list_sources_need, query_boxes, part_sources_need, sorts_need, sum_by-cons, table_need, used_tables}
+use Rattle.plan_ends.proofs.Imports.{Bool, List, None, Option, [], arith, cond, false, is_some, length, sum_by, true, ℕ, ◌*◌, ◌+◌, ◌∷◌, ◌≡◌, ◌≤◌, Checked, CheckedJoin, Cond, Grouped, Kind, PartsDecl, Plain, Shape, SortKey, Span, TableDecl, TableUse, crowded, few-paths, few-uses, first_crowded, having_need, if_filtered, if_grouped, if_joined, if_limited, if_ordered, if_plain, join_use, list_sources_need, query_boxes, part_sources_need, sorts_need, sum_by-cons, table_need, used_tables}
 use Rattle.query_model.specs.declared.processor_spec.Kind.TheVariants as kind
 
 -- whether there are any

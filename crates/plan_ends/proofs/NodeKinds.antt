@@ -1,5 +1,5 @@
 -- The kinds of nodes.
-use Rattle.plan_ends.proofs.Imports.{arith, List, [], ap, ap₂, cond, count_by, map, refl, replicate, suc, ℕ, ◌++◌, ◌∙◌, ◌∷◌, ◌≡◌, reserves_from, PlanReserve, DraftNode, Kind, NodeForm, by-forms, count_over, forms, kind-same, kind_of, of_kind, same_kind, sum_by-map}
+use Rattle.plan_ends.proofs.Imports.{arith, List, [], ap, ap₂, cond, count_by, map, refl, replicate, suc, ℕ, ◌++◌, ◌∷◌, ◌≡◌, reserves_from, PlanReserve, DraftNode, Kind, NodeForm, by-forms, count_over, forms, kind-same, kind_of, of_kind, same_kind, sum_by-map}
 use Rattle.query_model.specs.declared.processor_spec.Kind.TheVariants as kind
 
 abbrev kinds : List DraftNode → List Kind

@@ -1,5 +1,5 @@
 -- The rows that boxes count are those that were pulled at their inputs.
-use Rattle.plan_ends.proofs.Imports.{Bool, List, [], ap, arith, cond, false, get_or, inl, inr, length, length-append, map, refl, suc, true, zero, ℕ, ◌+◌, ◌<◌, ◌∙◌, ◌∷◌, ◌≡◌, ◌≤◌, ◌⊎◌, BoxPicture, DraftNode, Files, Kind, Lists, NodePort, Spec, Stream, rows_together, box_at, first_rows, is_of, kind_of, ports_of, pulled_rows, stream_rows, same_kind, total_rows, HasFullCount, HasPulled, KeepsContract, in_stream, pulled_since}
+use Rattle.plan_ends.proofs.Imports.{Bool, List, [], ap, arith, cond, false, get_or, inl, inr, length, length-append, map, refl, suc, true, zero, ℕ, ◌+◌, ◌<◌, ◌∷◌, ◌≡◌, ◌≤◌, ◌⊎◌, BoxPicture, DraftNode, Files, Kind, Lists, NodePort, Spec, Stream, rows_together, box_at, first_rows, is_of, kind_of, ports_of, pulled_rows, stream_rows, same_kind, total_rows, HasFullCount, HasPulled, KeepsContract, in_stream, pulled_since}
 use Rattle.plan_ends.proofs.ResizeLaws.{all-ports, at_ports}
 
 -- the rows of the first lists, counted

@@ -1,7 +1,7 @@
 -- The types that stand at the open ends of a plan. Each block stands before nodes that fit the
 -- types that it leaves.
 use Rattle.std.proofs.lemmas.Grind.{common_steps}
-use Rattle.plan_ends.proofs.Imports.{IfSome, List, None, Option, Some, SumsNoTexts, [], ap, append_assoc, ap₂, arith, length, length-append, map, refl, replicate, subst, suc, sym, zero, ℕ, ◌++◌, ◌∙◌, ◌∷◌, ◌≡◌, All, All-append, AllByRecursion, AllTyped, AreKeyPairs, Cond, DraftNode, Expr, FitsInput, FitsOrder, GroupSpec, Grouped, IsAmong, IsItem, IsTypedFilter, IsTypedShape, OneType, Plain, PlanJoin, SelectPlan, Shape, SortSpec, Span, Spec, Types, TypesFit, TypesTo, append-nil, body_nodes, call_arguments, collector, column_items, filter_nodes, gather_nodes, group_row_types, group_spec, spec_group_types, joint_node, lane_nodes, lane_steps, length-replicate, limit_nodes, map-append, map-map, partial_types, passes-type, plan_nodes, read-is, read_nodes, read_steps, replaced-at, run-at, select_steps, shape_nodes, shape_of, sort_nodes, source_nodes, taken_by, type_of, typed-all, typed-append, ⊤, join_step, sort_step, merge_step}
+use Rattle.plan_ends.proofs.Imports.{IfSome, List, None, Option, Some, SumsNoTexts, [], ap, append_assoc, ap₂, arith, length, length-append, map, refl, replicate, subst, suc, sym, zero, ℕ, ◌++◌, ◌∙◌, ◌∷◌, ◌≡◌, All, All-append, AllByRecursion, AllTyped, AreKeyPairs, Cond, DraftNode, Expr, FitsInput, FitsOrder, GroupSpec, Grouped, IsAmong, IsItem, IsTypedFilter, IsTypedShape, OneType, Plain, PlanJoin, SelectPlan, Shape, SortSpec, Span, Spec, Types, TypesFit, TypesTo, append-nil, body_nodes, call_arguments, collector, column_items, filter_nodes, gather_nodes, group_row_types, group_spec, spec_group_types, joint_node, lane_nodes, lane_steps, length-replicate, limit_nodes, map-append, map-map, partial_types, passes-type, plan_nodes, read-is, read_nodes, read_steps, replaced-at, run-at, second_resize, select_steps, shape_nodes, shape_of, sort_nodes, source_nodes, taken_by, type_of, typed-all, typed-append, ⊤, join_step, sort_step, merge_step}
 use Rattle.query_model.specs.declared.processor_spec.Spec.TheVariants as spec
 use Rattle.plan_ends.proofs.ShapeTypes.{calls-fit, columns-are, columns-fit, shape_types, sums-no-texts, type_at}
 
@@ -183,8 +183,7 @@ module _ (after : List Types) where
       let join : Spec = join_step j in
       let last : List DraftNode = joint_node spec.Resize 4 1 lanes ∷ more in
       let rest' : List DraftNode = joint_node join 3 2 1 ∷ last in
-      let resize : DraftNode =
-      record { spec = spec.Resize; rank = 2; offset = 1; takes = m; gives = 1 } in
+      let resize : DraftNode = second_resize m in
       let one : OneType join (u ∷ w ∷ []) (u ++ w) = record {
         fit = grind arith;
         makes = λ z us all e. e ∙ ap (λ l. l ++ w) (sym t.left);
@@ -196,8 +195,11 @@ module _ (after : List Types) where
       subst (λ l. Typed (resize ∷ rest') (u ∷ l)) (append-nil (replicate m w))
       (node-typed rest' resize (u ∷ []) (replicate m w) [] w refl (length-replicate m w)
       (resize-type m w) joined) in
-      simp append_assoc (joint-typed _ spec.Resize 2 ends 1 u u (resize-type ends u)
-      (sources-typed (resize ∷ rest') j.sources 1 (u ∷ []) w refl t.right second))
+      let first : DraftNode = joint_node spec.Resize 2 ends 1 in
+      simp append_assoc (sources-typed (first ∷ resize ∷ rest') j.sources ends (replicate ends u) w
+      (length-replicate ends u) t.right
+      (node-typed (resize ∷ rest') first [] (replicate ends u) (replicate m w) u refl
+      (length-replicate ends u) (resize-type ends u) second))
 
   read-typed : (more : List DraftNode) (sources : List Spec) (join : Option PlanJoin) (lanes : ℕ)
       (u : Types) → AllByRecursion (λ s. OneType s [] u) sources → IfSome join (IsTypedJoin u)

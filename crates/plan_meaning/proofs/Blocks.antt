@@ -309,6 +309,35 @@ module _ {parts : RowsOfSources} {unlimited : Type 0} where
   node-block node P Q R n limit some front takes step pulled =
       grind (arith, common_steps, node-at, append-nil)
 
+  -- a node that takes the first flows
+  node-first : (node : DraftNode) (P Q R : List Flow → Type 0) (n : Kind → ℕ)
+      → (unlimited → IsNoLimit node.spec) → 0 < node.gives → node.offset ≡ 0
+      → ((l : List Flow) → P l → length l ≡ node.takes)
+      → ((t : List Flow) (outs : List (List Row)) → P t
+      → MakesRows parts node.spec (flow_rows t) outs
+      → length outs ≡ node.gives
+      → R (flows_of (is_certain parts node.spec t) (is_needed parts node.spec t) outs))
+      → ((k : Kind) (t : List Flow) → unlimited → IsTold k → P t
+      → pulls k node.spec (length (rows_together (flow_rows t))) ≡ n k)
+      → Block parts unlimited (node ∷ []) (Both P Q) (Both R Q) n
+  node-first node P Q R n limit some first takes step pulled = record {
+    run = λ before after p m.
+        let made = node-at parts node [] p.front p.back before m.0 p.are (sym first)
+        (takes p.front p.first) m.1 in (
+          record {
+            front = flows_of (is_certain parts node.spec p.front)
+                (is_needed parts node.spec p.front) made.outs;
+            back = p.back;
+            are = m.2 ∙ made.are;
+            first = step p.front made.outs p.first made.makes made.count;
+            second = p.second;
+          },
+          λ u k t. let all = made.pulled k in let these = pulled k p.front u t p.first in
+              omega (arith, all, these),
+        );
+    all_open = λ u. ((some, limit u), tt);
+  }
+
   -- a node that takes all flows, and has one output
   pub joint-block : (s : Spec) (rank m : ℕ) (P : List Flow → Type 0) (Q : Flow → Type 0)
       (n : Kind → ℕ)
@@ -357,6 +386,23 @@ module _ {parts : RowsOfSources} {unlimited : Type 0} where
       search (
         arith,
         node-block,
+        length-map,
+        IsPermutation-trans,
+        IsPermutation-same,
+        rows-marked,
+        certain-marked,
+        needs-marked,
+      )
+
+  -- a resize of the first flows
+  pub resize-first : (rank m n : ℕ) (Q : List Flow → Type 0) (rows : List Row) (c d : Bool)
+      → 0 < n
+      → Block parts unlimited (joint_node spec.Resize rank m n ∷ [])
+      (Both (Spread m rows c d) Q) (Both (Spread n rows c d) Q) (λ k. 0)
+  resize-first rank m n Q rows c d some =
+      search (
+        arith,
+        node-first,
         length-map,
         IsPermutation-trans,
         IsPermutation-same,

@@ -1,5 +1,5 @@
 -- What passed by the end of a run is the first of what passes where nobody closes an input.
-use Rattle.plan_meaning.proofs.Imports.{Bool, List, [], arith, length, refl, subst, sym, true, ◌++◌, ◌+◌, ◌<◌, ◌∙◌, ◌∷◌, ◌≡◌, AllByRecursion, AllZip, AllZip-long, DraftNode, KeyPair, Spec, and_from, and_parts, both_ways, given_by, length-map, list_all-append, or_cases, or_left, run-split, taken_by, AllInputsDone, IsNoLimit, IsOpenNode, Pulls, PlanRuns, RunsNode, Completes, IsFront, Flow, OneToOne, RowsOfSources, Source, Stream, TwoToOne, all_done, any_done, flows_of, Gives, GivesJoined, MakesRows, is_certain, is_needed}
+use Rattle.plan_meaning.proofs.Imports.{Bool, List, [], arith, length, refl, subst, sym, true, ◌++◌, ◌<◌, ◌∙◌, ◌∷◌, ◌≡◌, AllByRecursion, AllZip, AllZip-long, DraftNode, KeyPair, Spec, and_from, and_parts, both_ways, given_by, length-map, list_all-append, or_cases, or_left, run-split, taken_by, AllInputsDone, IsNoLimit, IsOpenNode, Pulls, PlanRuns, RunsNode, Completes, IsFront, Flow, OneToOne, RowsOfSources, Source, Stream, TwoToOne, all_done, any_done, flows_of, Gives, GivesJoined, MakesRows, is_certain, is_needed}
 use Rattle.plan_meaning.proofs.KindLaws.{CompletesKind, complete-kind, done-rows}
 use Rattle.plan_meaning.proofs.Fronts.{pulled-front}
 use Rattle.plan_meaning.proofs.Zips.{zip-chain, zip-given, zip-taken}

@@ -1,6 +1,6 @@
 -- What each kind gave by the end of a run is the first of what it makes where nobody closes an
 -- input.
-use Rattle.plan_meaning.proofs.Imports.{Bool, IsPermutation, IsSorted, List, Some, [], ap, ap₂, arith, drop, false, filter, inl, inr, is_lt, leb, length, map, refl, subst, suc, sym, take, true, zero, ℕ, ◌&&◌, ◌++◌, ◌+◌, ◌<◌, ◌||◌, ◌∙◌, ◌∷◌, ◌≡◌, ◌≤◌, ◌⊎◌, AllByRecursion, AllZip, InOrder, IsPermutation-append_comm, IsPermutation-append_left, IsPermutation-append_right, IsPermutation-refl, IsPermutation-same, IsPermutation-trans, IsSortOf, KeyPair, Row, SortKey, Span, Spec, and_from, and_parts, append-nil, append_assoc, both_ways, cases_lt, drop-append-le, enough, eqb-true, every-append, every-none, every-permuted, filter-append, holds, item_row, joined_rows, joined_rows-append, le-leb, length-append, length-drop, length_permutation, limited, list_all, map-append, numbers, or_left, or_right, order-from_sorted, order-front, order-joined, ordered, ordered-none, ordered-order, ordered-same, row_cmp, rows-ordered, sorted-from_order, take-append-le, Flow, ManyToOne, OneToOne, SourceRows, RowsOfSources, Source, Stream, TwoToOne, all_certain, all_done, rows_together, any_done, any_needs, flow_rows, flows_of, stream_rows, Gives, GivesHeld, GivesJoined, GivesLimited, GivesMerged, GivesSource, GivesResized, GivesThrough, HoldsBack, IsMergeOf, merged_rows, partial_rows, IsFront, MakesRows, is_certain, is_needed}
+use Rattle.plan_meaning.proofs.Imports.{Bool, IsPermutation, IsSorted, List, Some, [], ap, ap₂, arith, drop, false, filter, inl, inr, is_lt, leb, length, map, refl, subst, suc, sym, take, true, zero, ℕ, ◌&&◌, ◌++◌, ◌<◌, ◌||◌, ◌∙◌, ◌∷◌, ◌≡◌, ◌≤◌, ◌⊎◌, AllByRecursion, AllZip, InOrder, IsPermutation-append_comm, IsPermutation-append_left, IsPermutation-append_right, IsPermutation-refl, IsPermutation-same, IsPermutation-trans, IsSortOf, KeyPair, Row, SortKey, Span, Spec, and_from, and_parts, append-nil, append_assoc, both_ways, cases_lt, drop-append-le, enough, eqb-true, every-append, every-none, every-permuted, filter-append, holds, item_row, joined_rows, joined_rows-append, le-leb, length-append, length-drop, length_permutation, limited, list_all, map-append, numbers, or_left, or_right, order-from_sorted, order-front, order-joined, ordered, ordered-none, ordered-order, ordered-same, row_cmp, rows-ordered, sorted-from_order, take-append-le, Flow, ManyToOne, OneToOne, SourceRows, RowsOfSources, Source, Stream, TwoToOne, all_certain, all_done, rows_together, any_done, any_needs, flow_rows, flows_of, stream_rows, Gives, GivesHeld, GivesJoined, GivesLimited, GivesMerged, GivesSource, GivesResized, GivesThrough, HoldsBack, IsMergeOf, merged_rows, partial_rows, IsFront, MakesRows, is_certain, is_needed}
 use Rattle.plan_meaning.proofs.Fronts.{Behind, behind, certain-inputs, needed-inputs, no-rest}
 use Rattle.query_model.specs.declared.processor_spec.Spec.TheVariants as spec
 

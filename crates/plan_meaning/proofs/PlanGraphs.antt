@@ -1,5 +1,5 @@
 -- A list of nodes of the forms of a plan's is a graph of few nodes.
-use Rattle.plan_meaning.proofs.Imports.{List, [], ap, arith, cond, length, refl, ◌+◌, ◌∙◌, ◌≡◌, ◌≤◌, AllFitDraft, DraftNode, IsDraftGraph, fits, lists-are-graphs, no_draft, sum_by-cons, with_nodes, Count, count_over, each_input, each_kept, SelectPlan, IsSmall, plan_nodes, NodeForm, node_form, forms, same_kind}
+use Rattle.plan_meaning.proofs.Imports.{List, [], ap, arith, cond, length, refl, ◌+◌, ◌≡◌, ◌≤◌, AllFitDraft, DraftNode, IsDraftGraph, fits, lists-are-graphs, no_draft, sum_by-cons, with_nodes, Count, count_over, each_input, each_kept, SelectPlan, IsSmall, plan_nodes, NodeForm, node_form, forms, same_kind}
 use Rattle.query_model.specs.declared.processor_spec.Kind.TheVariants as kind
 use Rattle.plan_meaning.proofs.Counts.{few-nodes, nodes-counted, wires-counted}
 use Rattle.plan_meaning.proofs.Fitting.{plan-fits}

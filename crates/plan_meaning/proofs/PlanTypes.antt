@@ -1,6 +1,6 @@
 -- The types that a kind makes of chunks of one type.
 use Rattle.std.proofs.lemmas.Grind.{common_steps}
-use Rattle.plan_meaning.proofs.Imports.{arith, List, replicate, ℕ, ◌∙◌, ◌≡◌, AllByRecursion, Spec, Types, TypesFit, MakesType, IsAmong}
+use Rattle.plan_meaning.proofs.Imports.{arith, List, replicate, ℕ, ◌≡◌, AllByRecursion, Spec, Types, TypesFit, MakesType, IsAmong}
 
 -- what a kind makes of chunks of these types is of that type
 pub record OneType (s : Spec) (ins : List Types) (made : Types) : Type 0 where

@@ -1,6 +1,5 @@
 -- What the plan of a checked query makes of rows is what the query selects.
 use Rattle.plan_meaning.proofs.Imports.{List, None, Option, Some, [], ap, ap₂, arith, false, is_none, length, map, refl, suc, sym, take, true, zero, ℕ, ◌++◌, ◌+◌, ◌∙◌, ◌∷◌, ◌≡◌, ◌≤◌, AggCall, AggOp, AllByRecursion, Call, Checked, ColumnType, Database, Expr, ExprOf, Grouped, Grouping, IsAnswer, Plain, Row, Shape, Text, append_assoc, both_ways, call_of, count_up, filter-map, get_or_at, grouped_by, grouped_rows, groups, item_row, length-append, length-map, map-append, map-map, selected_rows, take_at, take_more, value_at, value_of, values_at, HasCalls, IsCall, IsPlanOf, call_arguments, column_items, group_spec, grouped_of, shape_of, state_call, RowsOfSources, PlanAnswers, SelectPlan, shape_rows, calls_from, is_count}
-use Rattle.chunk_data.specs.declared.typed_value.ColumnType.TheVariants as column
 use Rattle.query_model.specs.declared.query.AggOp.TheVariants as agg
 use Rattle.query_model.specs.declared.query.ExprOf.TheVariants as expr
 

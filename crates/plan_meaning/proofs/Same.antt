@@ -1,5 +1,5 @@
 -- Nodes of one form make the same graph and give the same.
-use Rattle.plan_meaning.proofs.Imports.{List, Some, [], ap, arith, drop, get_or, length, map, refl, subst, suc, sym, ℕ, ◌+◌, ◌<◌, ◌∙◌, ◌∷◌, ◌≡◌, ◌≤◌, AllFitEnds, ColumnType, Draft, DraftNode, FitsInput, NodePort, Spec, SpecForm, cond_form, every-weaker, formula, kind_of, ports_of, ranks_after, ranks_with, spec_form, unboxed, with_node, with_nodes, RowsOfSources, Stream, Gives, Types, FitFrom, MakesType, GivesIf, EachGivesIf, NodeForm, node_form, forms}
+use Rattle.plan_meaning.proofs.Imports.{List, Some, [], ap, arith, drop, get_or, length, map, refl, subst, suc, sym, ℕ, ◌+◌, ◌∙◌, ◌∷◌, ◌≡◌, ◌≤◌, AllFitEnds, ColumnType, Draft, DraftNode, FitsInput, NodePort, Spec, SpecForm, cond_form, every-weaker, formula, kind_of, ports_of, ranks_after, ranks_with, spec_form, unboxed, with_node, with_nodes, RowsOfSources, Stream, Gives, Types, FitFrom, MakesType, GivesIf, EachGivesIf, NodeForm, node_form, forms}
 use Rattle.query_model.specs.declared.processor_spec.Spec.TheVariants as spec
 use Rattle.plan_meaning.proofs.Copies.{conds-same, items-same}
 

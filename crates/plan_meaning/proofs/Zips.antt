@@ -1,5 +1,5 @@
 -- Lists side by side.
-use Rattle.plan_meaning.proofs.Imports.{AllZip, DraftNode, given_by, taken_by, List, [], arith, drop, suc, take, ℕ, ◌++◌, ◌+◌, ◌∷◌}
+use Rattle.plan_meaning.proofs.Imports.{AllZip, DraftNode, given_by, taken_by, List, arith, drop, suc, take, ℕ, ◌++◌, ◌∷◌}
 
 zip-take : {A B : Type 0} (R : A → B → Type 0) (n : ℕ) (xs : List A) (ys : List B)
     → AllZip R xs ys → AllZip R (take n xs) (take n ys)

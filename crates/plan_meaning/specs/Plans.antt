@@ -46,17 +46,23 @@ sort_step order = spec.Sort order
 abbrev pub merge_step : SortSpec → Spec
 merge_step order = spec.MergeSorted order
 
+-- a resize of the second table's sources to one end, behind that of FROM
+abbrev pub second_resize : ℕ → DraftNode
+second_resize sources =
+    record { spec = spec.Resize; rank = 2; offset = 1; takes = sources; gives = 1 }
+
 -- From so many open ends with the rows of FROM to the lanes, joined with the second table where
--- there is one. The ends are those of a table's sources, or the one end of a subquery.
+-- there is one, whose sources come first. The ends are those of a table's sources, or the one end
+-- of a subquery.
 abbrev pub read_steps : ℕ → Option PlanJoin → ℕ → List DraftNode
 read_steps ends None lanes = joint_node spec.Resize 2 ends lanes ∷ []
 read_steps ends (Some j) lanes =
-    joint_node spec.Resize 2 ends 1
-    ∷ (source_nodes 1 j.sources
-    ++ (record { spec = spec.Resize; rank = 2; offset = 1; takes = length j.sources; gives = 1 }
+    source_nodes ends j.sources
+    ++ (joint_node spec.Resize 2 ends 1
+    ∷ second_resize (length j.sources)
     ∷ joint_node (join_step j) 3 2 1
     ∷ joint_node spec.Resize 4 1 lanes
-    ∷ []))
+    ∷ [])
 
 -- by cases, so that it stays folded where the join isn't known
 abbrev pub read_nodes : List Spec → Option PlanJoin → ℕ → List DraftNode

@@ -2,7 +2,6 @@
 use Rattle.std.proofs.lemmas.Grind.{common_steps}
 use Rattle.select_planner.proofs.Imports.{Checked, CheckedJoin, ColumnType, Cond, Count, Declared, DraftNode, Grouped, Kind, Numbers, PartsDecl, Plain, Shape, SortKey, Span, TableDecl, TableUse, append-nil, append_assoc, count_by-le-length, count_over, each_kept, filter_count, gather_count, if_declared, if_filtered, if_limited, if_ordered, if_unordered, kind_of, length-take-le, limit_count, list_sources_need, query_boxes, none-of, of_kind, part_sources_need, plan-counted, plan_count, plan_nodes, same_kind, sort_count, sources_count, sum_by-append, sum_by-cons, sum_by-replicate, sum_by-take-le, sum_by_more, table_need, take_more, Bool, List, None, Option, Some, [], ap, arith, cond, false, get_or, length, refl, replicate, slice_get, suc, sum_by, sym, take, true, ℕ, ◌*◌, ◌++◌, ◌+◌, ◌<◌, ◌∙◌, ◌∷◌, ◌≡◌, ◌≤◌, PlanReserve, reserved_nodes, boxes_reserved, boxes_taken, PlanNode, kept_at, reserves_from, SourceReading, declared_sources, order_of, part_sources, path_sources, select_plan, table_sources}
 use Rattle.query_model.specs.declared.processor_spec.Kind.TheVariants as kind
-use Rattle.query_model.specs.declared.processor_spec.Spec.TheVariants as spec
 
 -- so many where the kind is this one
 abbrev only : Kind → Kind → ℕ → ℕ

@@ -2,10 +2,9 @@
 pub use Rattle.select_planner.specs.Boxes.{reserved_nodes}
 pub use Rattle.select_planner.specs.Counts.{boxes_needed, boxes_reserved, boxes_taken}
 pub use Rattle.select_planner.specs.Refusals.{NamedPaths, crowded, crowded_decl, first_crowded, or_else, path_count}
-pub use Rattle.select_planner.specs.Shapes.{IsSoundPlan, LaysDown, kept_at, plan_edge_of, plan_node_of, plan_ranks, plan_wire_of, plan_wires, reserves_from}
+pub use Rattle.select_planner.specs.Shapes.{IsSoundPlan, LaysDown, kept_at, plan_node_of, plan_ranks, reserves_from}
 pub use Rattle.select_planner.specs.Steps.{SourceReading, declared_sources, join_of, order_of, part_sources, part_spec, path_sources, select_plan, table_reading, table_sources}
 pub use Rattle.select_planner.specs.declared.nodes.Plan.{Plan}
-pub use Rattle.select_planner.specs.declared.nodes.PlanEdge.{PlanEdge}
 pub use Rattle.select_planner.specs.declared.nodes.PlanNode.{PlanNode}
 pub use Rattle.select_planner.specs.declared.nodes.PlanReserve.{PlanReserve}
 pub use Rattle.std.proofs.Common.{Bool, List, None, Option, Some, [], ap, ap₂, arith, cond, count_by, false, get_or, length, map, nat_lt, refl, replicate, slice_get, slice_index_or, subst, suc, sum_by, sym, take, true, zero, ℕ, ◌*◌, ◌++◌, ◌+◌, ◌<◌, ◌∙◌, ◌∷◌, ◌≡◌, ◌≤◌}

@@ -1,5 +1,5 @@
 -- What was laid down is a graph, and takes as many boxes of each kind as the query needs.
-use Rattle.select_planner.proofs.Imports.{Bool, List, [], ap, arith, cond, length, map, subst, sum_by, sym, ℕ, ◌++◌, ◌+◌, ◌∙◌, ◌∷◌, ◌≡◌, Checked, Draft, DraftNode, IsGraph, IsSmall, Kind, NodeForm, TableDecl, append-nil, append_assoc, count_over, counted-same, kind-same, length-map, map-id, map-map, query_boxes, no_draft, of_kind, plan-graph, plan_nodes, same_kind, sum_by-map, with_node, with_nodes, Plan, reserved_nodes, boxes_needed, boxes_taken, boxes_reserved, plan_edge_of, plan_wire_of, plan_ranks, plan_wires, IsSoundPlan, LaysDown, select_plan}
+use Rattle.select_planner.proofs.Imports.{Bool, List, [], ap, arith, cond, length, map, subst, sum_by, sym, ℕ, ◌++◌, ◌+◌, ◌∙◌, ◌∷◌, ◌≡◌, Checked, Draft, DraftNode, IsGraph, IsSmall, Kind, NodeForm, TableDecl, append-nil, append_assoc, count_over, counted-same, kind-same, length-map, map-map, query_boxes, no_draft, of_kind, plan-graph, plan_nodes, same_kind, sum_by-map, with_node, with_nodes, Plan, reserved_nodes, boxes_needed, boxes_taken, boxes_reserved, plan_ranks, IsSoundPlan, LaysDown, select_plan}
 use Rattle.query_model.specs.declared.processor_spec.Kind.TheVariants as kind
 use Rattle.select_planner.proofs.BoxCounts.{boxes-counted, boxes_for, nodes-kept, plan-needs}
 
@@ -36,13 +36,11 @@ is-sound q tables lanes rows header p small l =
     let g = plan-graph (select_plan q tables lanes rows header) l.copies small l.same in
     let drawn : Draft = with_nodes l.copies no_draft in
     let ranks : plan_ranks p ≡ drawn.ranks = grind (arith, map-map, ranks-are) in
-    let wires : plan_wires p ≡ drawn.wires = ap (map plan_wire_of) l.edges
-    ∙ map-map plan_wire_of plan_edge_of drawn.wires ∙ map-id drawn.wires in
     let count : length p.nodes ≡ length l.copies = grind (arith, length-map) in
     let few = g.few in
-    let edges : length p.edges ≡ length drawn.wires = grind (arith, length-map) in
+    let edges : length p.edges ≡ length drawn.wires = ap (λ w. length w) l.edges in
     record {
-      graph = rw ranks (subst (λ w. IsGraph drawn.ranks w []) (sym wires) g.graph.graph);
+      graph = rw ranks (subst (λ w. IsGraph drawn.ranks w []) (sym l.edges) g.graph.graph);
       needed = needs-are q tables lanes rows header p l;
       few = omega (arith, count, ap reserved_nodes l.reserves, nodes-kept 0 l.copies, few);
       few_edges = omega (arith, edges, g.few_wires);

@@ -1,28 +1,18 @@
 -- A plan that was laid down by a list of nodes.
 use Rattle.std.specs.Prelude.{List, [], cond, length, map, replicate, suc, ℕ, ◌++◌, ◌+◌, ◌∷◌, ◌≡◌, ◌≤◌}
-use Rattle.select_planner.specs.Prelude.{Checked, DraftNode, IsGraph, Kind, TableDecl, Wire, forms, kind_of, query_boxes, no_draft, same_kind, with_nodes}
+use Rattle.select_planner.specs.Prelude.{Checked, DraftNode, IsGraph, Kind, TableDecl, forms, kind_of, query_boxes, no_draft, same_kind, with_nodes}
 use Rattle.query_model.specs.declared.processor_spec.Kind.TheVariants as kind
 use Rattle.select_planner.specs.Boxes.{reserved_nodes}
 use Rattle.select_planner.specs.Counts.{boxes_needed}
 use Rattle.select_planner.specs.declared.nodes.PlanNode.{PlanNode}
-use Rattle.select_planner.specs.declared.nodes.PlanEdge.{PlanEdge}
 use Rattle.select_planner.specs.declared.nodes.PlanReserve.{PlanReserve}
 use Rattle.select_planner.specs.declared.nodes.Plan.{Plan}
 
 abbrev pub plan_node_of : DraftNode → PlanNode
 plan_node_of n = record { spec = n.spec; rank = n.rank }
 
-abbrev pub plan_edge_of : Wire → PlanEdge
-plan_edge_of w = record { from = w.from; out = w.out; to = w.to; input = w.input }
-
-abbrev pub plan_wire_of : PlanEdge → Wire
-plan_wire_of e = record { from = e.from; out = e.out; to = e.to; input = e.input }
-
 abbrev pub plan_ranks : Plan → List ℕ
 plan_ranks p = map (λ (n : PlanNode). n.rank) p.nodes
-
-abbrev pub plan_wires : Plan → List Wire
-plan_wires p = map plan_wire_of p.edges
 
 -- what is kept for node n: for a list of parts, a source and an edge for each that it may name
 abbrev pub kept_at : ℕ → DraftNode → List PlanReserve
@@ -36,7 +26,7 @@ reserves_from n (node ∷ nodes) = kept_at n node ++ reserves_from (suc n) nodes
 
 -- the plan is a graph, and takes as many boxes of each kind as the query needs
 pub record IsSoundPlan (q : Checked) (tables : List TableDecl) (lanes : ℕ) (p : Plan) : Type 0 where
-  pub graph : IsGraph (plan_ranks p) (plan_wires p) []
+  pub graph : IsGraph (plan_ranks p) p.edges []
   pub needed : (k : Kind) → boxes_needed p k ≡ query_boxes q tables lanes k
   pub few : length p.nodes + reserved_nodes p.reserves ≤ 124
   pub few_edges : length p.edges ≤ 140
@@ -47,5 +37,5 @@ pub record LaysDown (steps : List DraftNode) (p : Plan) : Type 0 where
   pub copies : List DraftNode
   pub same : forms copies ≡ forms steps
   pub nodes : p.nodes ≡ map plan_node_of copies
-  pub edges : p.edges ≡ map plan_edge_of (with_nodes copies no_draft).wires
+  pub edges : p.edges ≡ (with_nodes copies no_draft).wires
   pub reserves : p.reserves ≡ reserves_from 0 copies

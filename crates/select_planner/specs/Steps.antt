@@ -1,6 +1,6 @@
 -- What a checked query fills in of the table of steps.
-use Rattle.std.specs.Prelude.{Bool, List, None, Option, Some, [], length, slice_get, suc, ℕ, ◌++◌, ◌∷◌}
-use Rattle.select_planner.specs.Prelude.{Checked, CheckedJoin, ColumnType, Declared, DraftNode, JoinSpec, ListFile, Numbers, PartSpec, PartsDecl, Paths, PlanJoin, SelectPlan, SortKey, SortSpec, Spec, TableDecl, TableUse, column_types, numbers, shape_of, source_nodes}
+use Rattle.std.specs.Prelude.{Bool, List, None, Option, Some, [], slice_get, suc, ℕ, ◌++◌, ◌∷◌}
+use Rattle.select_planner.specs.Prelude.{Checked, CheckedJoin, ColumnType, Declared, JoinSpec, ListFile, Numbers, PartSpec, PartsDecl, Paths, PlanJoin, SelectPlan, SortKey, SortSpec, Spec, TableDecl, TableUse, column_types, numbers, shape_of}
 use Rattle.query_model.specs.declared.processor_spec.Spec.TheVariants as spec
 
 -- how the parts of a table are read: the place of the table, the types of its columns, whether the
@@ -95,13 +95,3 @@ select_plan q tables lanes rows header = record {
   limit = q.limit;
   lanes = lanes;
 }
-
--- the sources of a table behind so many open ends, and a resize of them
-abbrev pub table_nodes : (place : ℕ) → List Spec → (lanes : ℕ) → List DraftNode
-table_nodes place sources lanes = source_nodes place sources ++ record {
-  spec = spec.Resize;
-  rank = 2;
-  offset = place;
-  takes = length sources;
-  gives = lanes;
-} ∷ []

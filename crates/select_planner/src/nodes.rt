@@ -3,6 +3,7 @@ ghost use Rattle.std.specs.Prelude.{◌+◌, ◌≤◌, length};
 ghost use Rattle.select_planner.specs.Boxes.{reserved_nodes};
 
 use chunk_data::{Bytes, List};
+use port_word::Wire;
 use query_model::processor_spec::{Kind, Spec};
 
 /// A node: what its box is loaded with, and its rank.
@@ -13,13 +14,7 @@ pub struct PlanNode {
 }
 
 /// An edge from an output of a node to an input of another.
-#[derive(Clone, Copy, PartialEq, Eq)]
-pub struct PlanEdge {
-    pub from: u32,
-    pub out: u32,
-    pub to: u32,
-    pub input: u32,
-}
+pub type PlanEdge = Wire;
 
 /// The boxes and edges that are kept for a node that grows.
 #[derive(Drop)]

@@ -5,7 +5,7 @@ ghost use Rattle.query_model.specs.declared.query.ColumnDecl.{ColumnDecl};
 ghost use Rattle.plan_graph.specs.Blocks.{source_nodes};
 ghost use Rattle.plan_meaning.specs.Same.{forms};
 ghost use Rattle.select_planner.specs.Refusals.{crowded, crowded_decl, first_crowded, path_count, IsCrowdedTable, IsDuePlanRefusal};
-ghost use Rattle.select_planner.specs.Steps.{join_spec, part_sources, part_spec, path_sources, source_types, table_nodes, table_reading, table_sources, used_types};
+ghost use Rattle.select_planner.specs.Steps.{join_spec, part_sources, part_spec, path_sources, source_types, table_reading, table_sources, used_types};
 
 use crate::lanes::add_node;
 use crate::nodes::PlanRefusal;
@@ -75,33 +75,8 @@ fn paths_named(parts: &PartsDecl) -> usize
     }
 }
 
-/// Adds the sources of a used table behind so many open ends, and their resize.
-pub(crate) fn add_table(
-    alloc: Global,
-    nodes: &mut List<DraftNode>,
-    table: TableUse,
-    tables: &[TableDecl],
-    reading: SourceReading,
-    lanes: u32,
-) -> Result<(), Memory>
-    requires few_parts { crowded tables.now table ≡ None }
-    requires place { reading.place ≤ 1 }
-    ensures { OnOk result (forms nodes.new ≡ forms nodes.old ++ forms (table_nodes reading.place
-        (table_sources tables.now reading.header reading.rows table) lanes)) }
-{
-    let sources = add_sources(alloc, nodes, table, tables, reading)?;
-    let resize = DraftNode {
-        spec: Spec::Resize,
-        rank: 2,
-        offset: reading.place,
-        takes: sources,
-        gives: lanes,
-    };
-    add_node(nodes, resize)
-}
-
-/// Adds the sources of a used table, and says how many there are.
-fn add_sources(
+/// Adds the sources of a used table behind so many open ends, and says how many there are.
+pub(crate) fn add_sources(
     alloc: Global,
     nodes: &mut List<DraftNode>,
     table: TableUse,
@@ -109,10 +84,11 @@ fn add_sources(
     reading: SourceReading,
 ) -> Result<u32, Memory>
     requires few_parts { crowded tables.now table ≡ None }
-    requires place { reading.place ≤ 1 }
+    requires place { reading.place ≤ 32 }
     ensures nodes { OnOk result (forms nodes.new ≡ forms nodes.old
         ++ forms (source_nodes reading.place
         (table_sources tables.now reading.header reading.rows table))) }
+    ensures few { IfOk result (λ n. n ≤ 32) }
     ensures count { IfOk result
         (λ n. n ≡ length (table_sources tables.now reading.header reading.rows table)) }
 {
@@ -151,10 +127,11 @@ fn add_declared(
     reading: SourceReading,
 ) -> Result<u32, Memory>
     requires few_parts { path_count decl.now.parts ≤ 32 }
-    requires place { reading.place ≤ 1 }
+    requires place { reading.place ≤ 32 }
     ensures nodes { OnOk result (forms nodes.new ≡ forms nodes.old
         ++ forms (source_nodes reading.place
         (part_sources (table_reading reading.header reading.rows table decl.now) decl.now.parts))) }
+    ensures few { IfOk result (λ n. n ≤ 32) }
     ensures count { IfOk result (λ n. n ≡ length
         (part_sources (table_reading reading.header reading.rows table decl.now) decl.now.parts)) }
 {
@@ -180,7 +157,7 @@ fn add_paths(
     reading: SourceReading,
 ) -> Result<(), Memory>
     requires few_parts { length paths.now ≤ 32 }
-    requires place { reading.place ≤ 1 }
+    requires place { reading.place ≤ 32 }
     ensures { OnOk result (forms nodes.new ≡ forms nodes.old ++ forms (source_nodes reading.place
         (path_sources (table_reading reading.header reading.rows table decl.now) 1 paths.now))) }
 {

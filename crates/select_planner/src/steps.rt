@@ -1,24 +1,23 @@
 // The steps of a plan.
-ghost use Rattle.std.specs.Prelude.{◌≡◌, ◌+◌, ◌≤◌, ◌++◌, [], map, length, replicate, IfOk, IfErr, OnOk};
+ghost use Rattle.std.specs.Prelude.{◌≡◌, ◌+◌, ◌≤◌, ◌++◌, ◌∷◌, [], map, length, replicate, IfOk, IfErr, OnOk};
 ghost use Rattle.query_model.specs.Database.{used_tables};
 ghost use Rattle.query_model.specs.declared.checked.Shape.TheVariants.{Grouped};
 ghost use Rattle.query_model.specs.declared.processor_spec.Kind.TheVariants as csv;
 ghost use Rattle.plan_graph.specs.Drafts.{AllFitDraft, no_draft, with_nodes};
-ghost use Rattle.plan_meaning.specs.Names.{forms, plan_nodes, read_nodes, shape_nodes, shape_of};
+ghost use Rattle.plan_meaning.specs.Names.{forms, plan_nodes, read_nodes, second_resize, shape_nodes, shape_of};
 ghost use Rattle.select_planner.specs.Refusals.{first_crowded, IsDuePlanRefusal};
-ghost use Rattle.select_planner.specs.Shapes.{plan_edge_of, kept_at, plan_node_of, reserves_from, IsSoundPlan, LaysDown};
+ghost use Rattle.select_planner.specs.Shapes.{kept_at, plan_node_of, reserves_from, IsSoundPlan, LaysDown};
 ghost use Rattle.select_planner.specs.Boxes.{reserved_nodes};
 ghost use Rattle.select_planner.specs.Steps.{join_of, order_of, select_plan, source_types, table_sources};
 
 use crate::groups::{arguments_of, columns_of, group_spec};
 use crate::lanes::{
-    add_filters, add_gather, add_items, add_joint, add_limit, add_partials, add_sort,
+    add_filters, add_gather, add_items, add_joint, add_limit, add_node, add_partials, add_sort,
 };
-use crate::nodes::{Plan, PlanEdge, PlanNode, PlanRefusal, PlanReserve};
-use crate::parts::{MAX_PARTS, SourceReading, add_table, check_tables, join_spec, source_types};
+use crate::nodes::{Plan, PlanNode, PlanRefusal, PlanReserve};
+use crate::parts::{MAX_PARTS, SourceReading, add_sources, check_tables, join_spec, source_types};
 use chunk_data::{ColumnType, List, Memory};
-use plan_graph::{DraftNode, build};
-use port_word::Wire;
+use plan_graph::{DraftBuilder, DraftNode, build};
 use query_model::checked::{Checked, Expr, Grouping, Shape};
 use query_model::processor_spec::{Kind, SortSpec, Spec};
 use query_model::query::TableDecl;
@@ -96,21 +95,38 @@ fn add_read(
         (table_sources tables.now reading.header reading.rows query.now.from)
         (join_of tables.now reading.header reading.rows query.now.from query.now.join) lanes)) }
 {
+    let ends = add_sources(alloc, nodes, query.from, tables, reading)?;
     match &query.join {
-        None => add_table(alloc, nodes, query.from, tables, reading, lanes),
+        None => add_joint(nodes, Spec::Resize, 2, ends, lanes),
         Some(join) => {
-            add_table(alloc, nodes, query.from, tables, reading, 1)?;
             let second = SourceReading {
                 header: reading.header,
                 rows: reading.rows,
-                place: 1,
+                place: ends,
             };
-            add_table(alloc, nodes, join.table, tables, second, 1)?;
+            let joined = add_sources(alloc, nodes, join.table, tables, second)?;
+            add_joint(nodes, Spec::Resize, 2, ends, 1)?;
+            add_second_resize(nodes, joined)?;
             let spec = join_spec(alloc, query.from, join, tables, reading.rows)?;
             add_joint(nodes, Spec::HashJoin(spec), 3, 2, 1)?;
             add_joint(nodes, Spec::Resize, 4, 1, lanes)
         }
     }
+}
+
+/// Adds the resize of the second table's sources.
+fn add_second_resize(nodes: &mut List<DraftNode>, sources: u32) -> Result<(), Memory>
+    ensures { OnOk result (forms nodes.new ≡ forms nodes.old
+        ++ forms (second_resize sources ∷ [])) }
+{
+    let resize = DraftNode {
+        spec: Spec::Resize,
+        rank: 2,
+        offset: 1,
+        takes: sources,
+        gives: 1,
+    };
+    add_node(nodes, resize)
 }
 
 /// Adds what makes the output rows of the filtered ones, in their order, in one stream.
@@ -192,16 +208,15 @@ fn plan_of(alloc: Global, nodes: List<DraftNode>) -> Result<Plan, Memory>
     requires few_nodes { length nodes + reserved_nodes (reserves_from 0 nodes) ≤ 256 }
     ensures nodes { IfOk result (λ p. p.nodes ≡ map plan_node_of nodes) }
     ensures edges { IfOk result
-        (λ p. p.edges ≡ map plan_edge_of (with_nodes nodes no_draft).wires) }
+        (λ p. p.edges ≡ (with_nodes nodes no_draft).wires) }
     ensures reserves { IfOk result (λ p. p.reserves ≡ reserves_from 0 nodes) }
 {
-    let graph = build(alloc, nodes.as_slice())?;
-    let edges = edges_of(alloc, graph.wires.as_slice())?;
+    let DraftBuilder { wires, .. } = build(alloc, nodes.as_slice())?;
     let reserves = reserves_of(alloc, nodes.as_slice())?;
     let nodes = nodes_of(alloc, nodes)?;
     Ok(Plan {
         nodes,
-        edges,
+        edges: wires,
         reserves,
     })
 }
@@ -251,21 +266,6 @@ fn listed_kinds(alloc: Global) -> Result<List<Kind>, Memory>
         kinds.push(Kind::Csv)?;
     }
     Ok(List::from_vec(kinds))
-}
-
-fn edges_of(alloc: Global, wires: &[Wire]) -> Result<List<PlanEdge>, Memory>
-    ensures { IfOk result (λ edges. edges ≡ map plan_edge_of wires.now) }
-{
-    let mut edges = Vec::new(alloc);
-    for wire in wires {
-        edges.push(PlanEdge {
-            from: wire.from,
-            out: wire.out,
-            to: wire.to,
-            input: wire.input,
-        })?;
-    }
-    Ok(List::from_vec(edges))
 }
 
 fn nodes_of(alloc: Global, nodes: List<DraftNode>) -> Result<List<PlanNode>, Memory>

@@ -112,13 +112,16 @@ fn a_missing_kind_is_told(rt: HostRuntime) -> Result<(), Fail> {
 /// same words run again.
 #[test]
 fn boxes_come_back_in_their_order(rt: HostRuntime) -> Result<(), Fail> {
-    static CASES: [&str; 5] = [
+    static CASES: [&str; 6] = [
         "a Int64~SELECT a FROM t WHERE a = 7~7\n8\n~\
          7\n/7\n/ssffeerrlc|sfelsrferc|lsfesrferc|~ssffeerrlc",
         "a Int64~SELECT a FROM t~7\n8\n~\
          7\n8\n/7\n8\n/ssffeerrlc|sffelsrerc|fflsesrerc|~ssffeerrlc",
         "a Int64~SELECT a FROM t LIMIT 2~7\n8\n~\
          7\n8\n/7\n8\n/ssffeerrlc|sffesrerlc|ffsesrerlc|~ssffeerrlc",
+        // both tables' sources, and then both tables' resizes
+        "a UInt64~SELECT a FROM t JOIN numbers(9) ON a = number~7\n8\n~\
+         7\n8\n/7\n8\n/snrrrrjec|snrrjrerc|snrrjrerc|~snrrrrjec",
         "a Int64~SELECT b FROM t~7\n8\n~\
          !refused: UnknownColumn b/!refused: UnknownColumn b/ssffeerrlc|ssffeerrlc|ssffeerrlc|~\
          ssffeerrlc",

@@ -1,4 +1,4 @@
-use Rattle.select_planner.proofs.Imports.{arith, ◌∙◌}
+use Rattle.select_planner.proofs.Imports.{arith}
 use Rattle.select_planner.proofs.Laying.{parts-count}
 use Rattle.select_planner.proofs.parts.add_declared.Goals as goal
 

@@ -1,4 +1,4 @@
-use Rattle.select_planner.proofs.Imports.{append-nil, arith, slice_get_past, ◌++◌, ◌∙◌}
+use Rattle.select_planner.proofs.Imports.{append-nil, arith, slice_get_past}
 use Rattle.select_planner.proofs.Laying.{none-declared}
 use Rattle.select_planner.proofs.parts.add_sources.Goals as goal
 

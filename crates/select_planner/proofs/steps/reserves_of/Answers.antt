@@ -1,4 +1,4 @@
-use Rattle.select_planner.proofs.Imports.{arith, ◌++◌, ◌∙◌}
+use Rattle.select_planner.proofs.Imports.{arith}
 use Rattle.select_planner.proofs.BoxCounts.{kept-more}
 use Rattle.select_planner.proofs.steps.reserves_of.Goals as goal
 

@@ -1,4 +1,4 @@
-use Rattle.select_planner.proofs.Imports.{arith, ◌+◌, ◌<◌, ◌≡◌, ◌≤◌}
+use Rattle.select_planner.proofs.Imports.{arith}
 use Rattle.select_planner.proofs.BoxCounts.{few-boxes}
 use Rattle.select_planner.proofs.stock.needs.Goals as goal
 
