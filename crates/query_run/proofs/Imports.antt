@@ -79,7 +79,7 @@ pub use Rattle.select_planner.proofs.Laying.{is-small}
 pub use Rattle.select_planner.specs.Boxes.{reserved_nodes}
 pub use Rattle.select_planner.specs.Counts.{boxes_needed, boxes_reserved}
 pub use Rattle.select_planner.specs.Refusals.{first_crowded}
-pub use Rattle.select_planner.specs.Shapes.{kept_at, plan_edge_of, plan_node_of, plan_ranks, plan_wire_of, plan_wires, reserves_from}
+pub use Rattle.select_planner.specs.Shapes.{kept_at, plan_node_of, plan_ranks, reserves_from}
 pub use Rattle.select_planner.specs.Steps.{order_of, source_types}
 pub use Rattle.select_planner.specs.declared.nodes.Plan.{Plan}
 pub use Rattle.select_planner.specs.declared.nodes.PlanNode.{PlanNode}

@@ -1,5 +1,5 @@
 -- The graph that is run is that of the query's plan.
-use Rattle.query_run.proofs.Imports.{BoxPicture, Checked, Command, DraftNode, GivesText, GraphBegins, GraphForm, HasBoxes, HasStock, IsCheckedCommand, IsGraph, IsPlanned, IsRunnable, IsShort, IsWithinLimits, KeepsBehind, Kind, LeavesRack, List, MakesText, NodeForm, PartPlace, Plan, PlanFailsFor, PlanFailure, PlanFault, PlanFaultHolds, PlanNode, RunsPlan, Shortage, Spec, TableDecl, Tells, [], ap, ap₂, arith, body_nodes, boxes_for, boxes_needed, collect_node, count_by, edges_kept, failure_of, is_of, kinds_for, kinds_reserved, kinds_taken, length, length-append, length-map, length-replicate, map, map-id, map-map, name_at, no_draft, node_form, node_specs, places_in, plan_edge_of, plan_node_of, plan_nodes, plan_of, plan_ranks, plan_wire_of, plan_wires, replicate, reserved_nodes, reserves_behind, reserves_from, slice_get, specs_in, subst, sym, with_nodes, ℕ, ◌++◌, ◌+◌, ◌∙◌, ◌∷◌, ◌≡◌, ◌≤◌}
+use Rattle.query_run.proofs.Imports.{BoxPicture, Checked, Command, DraftNode, GivesText, GraphBegins, GraphForm, HasBoxes, HasStock, IsCheckedCommand, IsGraph, IsPlanned, IsRunnable, IsShort, IsWithinLimits, KeepsBehind, Kind, LeavesRack, List, MakesText, NodeForm, PartPlace, Plan, PlanFailsFor, PlanFailure, PlanFault, PlanFaultHolds, PlanNode, RunsPlan, Shortage, Spec, TableDecl, Tells, [], ap, ap₂, arith, body_nodes, boxes_for, boxes_needed, collect_node, count_by, edges_kept, failure_of, is_of, kinds_for, kinds_reserved, kinds_taken, length, length-append, length-map, length-replicate, map, map-map, name_at, no_draft, node_form, node_specs, places_in, plan_node_of, plan_nodes, plan_of, plan_ranks, replicate, reserved_nodes, reserves_behind, reserves_from, slice_get, specs_in, subst, sym, with_nodes, ℕ, ◌++◌, ◌+◌, ◌∙◌, ◌∷◌, ◌≡◌, ◌≤◌}
 use Rattle.query_run.proofs.Causes.{told-cause}
 use Rattle.query_run.proofs.Composing.{makes_text}
 use Rattle.query_run.proofs.Grown.{formed}
@@ -33,17 +33,11 @@ module _ {c : Command} {q : Checked} {p : Plan} {specs : List Spec} (within : Is
         specs_are ∙ ap node_specs planned.laid.nodes
         ∙ map-map (λ (n : PlanNode). n.spec) plan_node_of nodes
 
-    abbrev wires_are : plan_wires p ≡ (with_nodes nodes no_draft).wires
-    wires_are = ap (map plan_wire_of) planned.laid.edges
-        ∙ map-map plan_wire_of plan_edge_of (with_nodes nodes no_draft).wires
-        ∙ map-id (with_nodes nodes no_draft).wires
-
     nodes_count : length p.nodes ≡ length nodes
     nodes_count = ap (λ l. length l) planned.laid.nodes ∙ length-map nodes plan_node_of
 
     edges_count : length p.edges ≡ length (with_nodes nodes no_draft).wires
     edges_count = ap (λ l. length l) planned.laid.edges
-        ∙ length-map (with_nodes nodes no_draft).wires plan_edge_of
 
     ranks_are : plan_ranks p ≡ map (λ (n : DraftNode). n.rank) nodes
     ranks_are = ap (map (λ (n : PlanNode). n.rank)) planned.laid.nodes
@@ -63,7 +57,7 @@ module _ {c : Command} {q : Checked} {p : Plan} {specs : List Spec} (within : Is
     -- the graph that the code made is that of the nodes
     made-form : (form : GraphForm)
         → form.ranks ≡ plan_ranks p ++ replicate (length (kinds_reserved p.reserves)) 0
-        → form.wires ≡ plan_wires p
+        → form.wires ≡ p.edges
         → form.reserves ≡ reserves_behind (length p.nodes) (length p.edges) p.reserves
         → form ≡ formed nodes
     made-form form ranks wires reserves =
@@ -76,7 +70,7 @@ module _ {c : Command} {q : Checked} {p : Plan} {specs : List Spec} (within : Is
         reserves
         ∙ ap (λ l. reserves_behind (length p.nodes) (length p.edges) l) planned.laid.reserves
         ∙ ap₂ (λ n e. reserves_behind n e (reserves_from 0 nodes)) nodes_count edges_count in
-        λ i. record { ranks = r i; wires = (wires ∙ wires_are) i; reserves = rs i }
+        λ i. record { ranks = r i; wires = (wires ∙ planned.laid.edges) i; reserves = rs i }
 
     some-nodes : 1 ≤ length nodes
     some-nodes =
@@ -95,7 +89,7 @@ module _ {c : Command} {q : Checked} {p : Plan} {specs : List Spec} (within : Is
         let len : length ranks ≡ length nodes = length-map nodes (λ (n : DraftNode). n.rank) in
         let base : IsGraph ranks (with_nodes nodes no_draft).wires [] =
         subst (λ r. IsGraph r (with_nodes nodes no_draft).wires []) ranks_are
-        (subst (λ w. IsGraph (plan_ranks p) w []) wires_are planned.sound.graph) in
+        (subst (λ w. IsGraph (plan_ranks p) w []) planned.laid.edges planned.sound.graph) in
         let edges = planned.sound.few_edges in
         rw len at (keeps-behind ranks (with_nodes nodes no_draft).wires base nodes (sym len)
         (omega (arith, len, few_kept))
@@ -104,7 +98,7 @@ module _ {c : Command} {q : Checked} {p : Plan} {specs : List Spec} (within : Is
     -- the code's graph, with the kinds that it keeps
     module _ {kept : List Kind} {form : GraphForm} (kept_are : kept ≡ kinds_reserved p.reserves)
         (ranks : form.ranks ≡ plan_ranks p ++ replicate (length (kinds_reserved p.reserves)) 0)
-        (wires : form.wires ≡ plan_wires p)
+        (wires : form.wires ≡ p.edges)
         (reserves : form.reserves ≡ reserves_behind (length p.nodes) (length p.edges) p.reserves)
       where
         of_kept : kept ≡ kinds_reserved (reserves_from 0 nodes)

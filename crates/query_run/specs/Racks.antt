@@ -38,7 +38,7 @@ OverFiles boxes P = (files : Files) → AreLawfulOver files boxes → P files
 
 -- ---- the boxes of a plan
 
--- the plan of a command's query, with as many lanes as workers
+-- the plan of a command's query, with as many lanes as threads
 abbrev pub plan_of : Command → Checked → SelectPlan
 plan_of c q = select_plan q c.tables c.threads c.chunk_rows c.header
 

@@ -22,7 +22,7 @@ use query_model::query::TableDecl;
 use select_planner::{Plan, PlanRefusal, plan};
 use std::alloc::Global;
 use std::sync::Wait;
-use std::thread::Threads;
+use std::thread::{Threads, available_parallelism};
 
 /// The text of the answer of the command that the words mean, made by the boxes of the rack.
 pub(crate) fn make_text<R: AllocGlobal + Threads + Wait + Sync>(
@@ -90,6 +90,30 @@ fn checked_text<R: AllocGlobal + Threads + Wait + Sync>(
     }
 }
 
+/// How many workers serve so many lanes: no more than there are processors, since a worker that is
+/// taken off its processor keeps its node from the others meanwhile. Two serve on a single one too,
+/// as two sources may wait for each other.
+fn workers_for<R: Threads>(rt: &R, lanes: u32) -> u32
+    requires { 1 ≤ lanes }
+    ensures some { 1 ≤ result }
+    ensures few { result ≤ lanes }
+{
+    if lanes <= 2 {
+        return lanes;
+    }
+    let Ok(processors) = available_parallelism(rt) else {
+        return lanes;
+    };
+    let processors = processors.get();
+    if processors < 2 {
+        2
+    } else if processors < lanes as usize {
+        processors as u32
+    } else {
+        lanes
+    }
+}
+
 /// The text of the answer of a checked query by its plan, for which the rack has the boxes.
 fn planned_text<R: AllocGlobal + Threads + Wait + Sync>(
     rt: &R,
@@ -124,7 +148,7 @@ fn planned_text<R: AllocGlobal + Threads + Wait + Sync>(
         graph,
         &checked.names,
         command.header,
-        command.threads,
+        workers_for(rt, command.threads),
     ) {
         Ok(text) => Ok(text),
         Err(fault) => {

@@ -1,6 +1,6 @@
 // The graph of a plan, and the parts that its boxes serve.
 ghost use Rattle.std.specs.Prelude.{◌≡◌, ◌+◌, ◌++◌, ◌≤◌, length, map, replicate, IfOk, OnOk, slice_get};
-ghost use Rattle.select_planner.specs.Shapes.{plan_ranks, plan_wire_of, plan_wires};
+ghost use Rattle.select_planner.specs.Shapes.{plan_ranks};
 ghost use Rattle.select_planner.specs.Boxes.{reserved_nodes};
 ghost use Rattle.query_run.specs.Racks.{kinds_reserved};
 ghost use Rattle.query_run.specs.Steps.{edges_kept, kept_places, name_of, name_at, node_specs, part_place, places_in, reserves_behind, spec_read};
@@ -8,10 +8,10 @@ ghost use Rattle.query_run.specs.Steps.{edges_kept, kept_places, name_of, name_a
 use crate::ending::PartName;
 use chunk_data::{Bytes, List, Memory};
 use plan_run::{GraphForm, PlanGraph};
-use port_word::{Reserve, Wire};
+use port_word::Reserve;
 use query_model::processor_spec::{Kind, Spec};
 use query_model::query::TableDecl;
-use select_planner::{Plan, PlanEdge, PlanNode, PlanReserve};
+use select_planner::{Plan, PlanNode, PlanReserve};
 use std::alloc::Global;
 
 /// The part that a box serves: the place of its table, from 0, and its own in the table, from 1; a
@@ -117,7 +117,7 @@ pub(crate) fn graph_of(alloc: Global, plan: Plan) -> Result<PlanGraph, Memory>
     ensures specs { IfOk result (λ g. g.specs.items ≡ node_specs plan.nodes) }
     ensures ranks { IfOk result (λ g. g.form.ranks ≡ plan_ranks plan
         ++ replicate (length (kinds_reserved plan.reserves)) 0) }
-    ensures wires { IfOk result (λ g. g.form.wires ≡ plan_wires plan) }
+    ensures wires { IfOk result (λ g. g.form.wires ≡ plan.edges) }
     ensures kept { IfOk result (λ g. g.kept ≡ kinds_reserved plan.reserves) }
     ensures reserves { IfOk result (λ g. g.form.reserves
         ≡ reserves_behind (length plan.nodes) (length plan.edges) plan.reserves) }
@@ -127,7 +127,6 @@ pub(crate) fn graph_of(alloc: Global, plan: Plan) -> Result<PlanGraph, Memory>
         edges,
         reserves,
     } = plan;
-    let wires = wires_of(alloc, edges.as_slice())?;
     let kept = kinds_kept(alloc, reserves.as_slice())?;
     let ranks = ranks_of(alloc, nodes.as_slice(), kept.len())?;
     let reserves = reserves_of(alloc, nodes.len(), edges.len(), reserves.as_slice())?;
@@ -136,7 +135,7 @@ pub(crate) fn graph_of(alloc: Global, plan: Plan) -> Result<PlanGraph, Memory>
         kept,
         form: GraphForm {
             ranks,
-            wires,
+            wires: edges,
             reserves,
         },
     })
@@ -204,21 +203,6 @@ fn ranks_of(alloc: Global, nodes: &[PlanNode], unborn: usize) -> Result<List<u32
         ranks.push(0)?;
     }
     Ok(List::from_vec(ranks))
-}
-
-fn wires_of(alloc: Global, edges: &[PlanEdge]) -> Result<List<Wire>, Memory>
-    ensures { IfOk result (λ wires. wires ≡ map plan_wire_of edges.now) }
-{
-    let mut wires = Vec::new(alloc);
-    for edge in edges {
-        wires.push(Wire {
-            from: edge.from,
-            out: edge.out,
-            to: edge.to,
-            input: edge.input,
-        })?;
-    }
-    Ok(List::from_vec(wires))
 }
 
 fn specs_of(alloc: Global, nodes: List<PlanNode>) -> Result<Vec<Spec>, Memory>

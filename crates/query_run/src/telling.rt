@@ -25,6 +25,8 @@ pub(crate) enum LinePiece<'a> {
 /// The pieces of a line, in order; the last ones are empty where it has fewer.
 type Line<'a> = [LinePiece<'a>; 10];
 
+const OUT_OF_MEMORY: &[u8] = b"qrun: out of memory";
+
 const END: LinePiece<'static> = LinePiece::Text(b"\n");
 
 const NONE: LinePiece<'static> = LinePiece::Text(b"");
@@ -80,7 +82,7 @@ pub(crate) fn failure_pieces(failure: &Failure) -> Line<'_>
         ),
         Failure::Refused(refused) => refused_pieces(refused),
         Failure::Plan(failure) => plan_pieces(failure),
-        Failure::Memory => named(b"qrun: out of memory", b""),
+        Failure::Memory => named(OUT_OF_MEMORY, b""),
     }
 }
 
@@ -152,7 +154,7 @@ fn plan_pieces(failure: &PlanFailure) -> Line<'_>
         PlanFailure::Unlawful(kind) => {
             named(b"qrun: limit: unlawful box of kind ", name_of(kind))
         }
-        PlanFailure::Memory => named(b"qrun: out of memory", b""),
+        PlanFailure::Memory => named(OUT_OF_MEMORY, b""),
     }
 }
 
@@ -256,7 +258,7 @@ fn text_line(refusal: ParseRefusal) -> &'static [u8]
         ParseRefusal::Syntax => b"qrun: refused: Syntax",
         ParseRefusal::NumberTooLarge => b"qrun: refused: NumberTooLarge",
         ParseRefusal::TooComplex => b"qrun: refused: TooComplex",
-        ParseRefusal::Memory => b"qrun: out of memory",
+        ParseRefusal::Memory => OUT_OF_MEMORY,
     }
 }
 
@@ -273,7 +275,7 @@ fn query_line(refusal: &Refusal) -> (&'static [u8], &[u8])
         Refusal::NotGrouped(name) => (b"qrun: refused: NotGrouped ", name.as_slice()),
         Refusal::BadOrderKey(name) => (b"qrun: refused: BadOrderKey ", name.as_slice()),
         Refusal::TooWide => (b"qrun: refused: TooWide", b""),
-        Refusal::Memory => (b"qrun: out of memory", b""),
+        Refusal::Memory => (OUT_OF_MEMORY, b""),
     }
 }
 
