@@ -5,7 +5,7 @@ use Rattle.exec_laws.specs.declared.edges.NodeStatus.TheVariants as node
 use Rattle.exec_laws.proofs.Nodes.{not-blank}
 use Rattle.node_cells.proofs.StayLaws.{keeps-stays}
 use Rattle.node_cells.specs.Cells.{CellHolds}
-use Rattle.node_cells.specs.Stored.{IsKept, IsStored}
+use Rattle.node_cells.specs.Stored.{AwaitsBirth, IsStored}
 
 module _ {P : Type 0} (seen : P → BoxPicture) (t : Identity) (c : NodeCell P) where
   -- where nothing more is due, the cell is at home
@@ -39,7 +39,7 @@ module _ {P : Type 0} (seen : P → BoxPicture) (t : Identity) (c : NodeCell P) 
   visited-between y h s k = record {
     stored = k;
     born = λ unborn.
-        let kept : IsKept seen t y = subst (λ z. StoredAs seen t z y) unborn k in
+        let kept : AwaitsBirth seen t y = subst (λ z. StoredAs seen t z y) unborn k in
         not-blank (seen y.processor).spec
         (rw s.box.same.spec (stored-cell h).node.box.running.loaded) kept.blank;
   }
