@@ -31,7 +31,7 @@ const LOOKS_BETWEEN_NAPS: u32 = 256;
 
 /// A nap takes a microsecond for so many looks that came before it. So a file of 200 MB that is
 /// read alone is read by less than a hundredth slower. A million looks, after which a reader is
-/// given up, take some 15 seconds, and a fifth of that of a processor.
+/// given up, take some 13 seconds, and little of a processor.
 const LOOKS_A_MICROSECOND: u32 = 10;
 
 /// What all workers share: the table, the numbers of nodes that are due, and the cells.
