@@ -6,7 +6,7 @@ pub use Rattle.csv.specs.Machine.{Read, ends_at_end, is_end, state_code, step}
 pub use Rattle.csv.specs.Reading.{default_config, is_bom, records, records_next}
 pub use Rattle.csv_rows.specs.Places.{AddsFirst, AddsRecord, AddsSpelled, BeginsField, BeginsFields, CanTakeBack, EndsRecord, FieldUpTo, FirstRecord, HasMore, IsBadRecordAt, Judged, OnBad, PushesField, PushesFirst, ReadsFirst, SkipsEnds, StartsLine, StartsPart, StopsAtField, at_mark, bytes_between, first_or, is_line_end, is_mark, no_mark, no_quote, records_at, starts_line, starts_with}
 pub use Rattle.csv_rows.specs.RowsLeft.{ReadsFront, RowsLeft, TakesRow, at_end}
-pub use Rattle.query_model.proofs.Imports.{Table, append-nil, both_spelled, doubled, drop_all, drop_more, is_digit, length-append, length-map, nat_lt, numeral_below, row_front, rows_text, separator, spelled_value, take_all, value_at, value_text, with_digits}
+pub use Rattle.query_model.proofs.Imports.{Table, append-nil, both_spelled, doubled, drop_all, drop_more, length-append, length-map, nat_lt, numeral_below, row_front, rows_text, separator, spelled_value, take_all, value_at, value_text, with_digits, is_ascii_digit}
 pub use Rattle.query_model.proofs.NumeralLaws.{with_digits-end, with_digits-numeral, with_digits-step}
 pub use Rattle.query_model.proofs.Reading.{bad_field-lengths, spelled_row-fits, spelled_row-lengths}
 pub use Rattle.std.proofs.Common.{IsSome, nat_eq}

@@ -1,6 +1,6 @@
 -- Numbers of few digits.
 use Rattle.std.proofs.Common.{◌≡◌, ℕ, suc, ◌+◌, ◌-◌, ◌*◌, ◌^◌, ◌<◌, ◌≤◌, ◌&&◌, Bool, true, false, cond, List, length, drop, get_or, refl, sym, ap, ◌∙◌, arith, Option, None}
-use Rattle.csv_rows.proofs.Imports.{is_digit, nat_lt, with_digits, with_digits-step}
+use Rattle.csv_rows.proofs.Imports.{is_ascii_digit, nat_lt, with_digits, with_digits-step}
 use Rattle.std.proofs.Math.Nat.{pow-suc, pow-le-pow_right}
 
 -- the number, if what was read of a field is good, with the digits behind it
@@ -9,9 +9,9 @@ read_on good number rest = cond good (with_digits number rest) None
 
 -- one byte more of a short field
 pub read_more : (field : List ℕ) (i number more : ℕ) (good digit : Bool) → i < length field
-    → length field ≤ 18 → (good ≡ true → number < 10 ^ i) → digit ≡ is_digit (get_or field i 0)
-    → (number < 10 ^ 17 → is_digit (get_or field i 0) ≡ true
-    → more ≡ number * 10 + (get_or field i 0 - 48))
+    → length field ≤ 18 → (good ≡ true → number < 10 ^ i)
+    → digit ≡ is_ascii_digit (get_or field i 0) → (number < 10 ^ 17
+    → is_ascii_digit (get_or field i 0) ≡ true → more ≡ number * 10 + (get_or field i 0 - 48))
     → (read_on (good && digit) more (drop (i + 1) field) ≡ read_on good number (drop i field))
     × ((good && digit) ≡ true → more < 10 ^ (i + 1))
 read_more field i number more false digit lt short few is step = (refl, λ k. absurd cc)

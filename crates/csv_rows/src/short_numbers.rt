@@ -1,6 +1,7 @@
 // Numbers as fields spell them, without a test at each digit.
 ghost use Rattle.std.specs.Prelude.{◌≡◌, ◌+◌, ◌-◌, ◌*◌, ◌<◌, ◌^◌, true};
-ghost use Rattle.query_model.specs.Names.{is_digit, numeral_below, spelled_int as int_spelled};
+ghost use Rattle.std.specs.Char.{is_ascii_digit};
+ghost use Rattle.query_model.specs.Names.{numeral_below, spelled_int as int_spelled};
 
 use query_model::numerals;
 
@@ -10,7 +11,7 @@ const SHORT: usize = 18;
 // The number with one digit more, where it is small.
 #[inline(always)]
 fn with_digit(number: u64, b: u8) -> u64
-    ensures { number < 10 ^ 17 → is_digit b ≡ true → result ≡ number * 10 + (b - 48) }
+    ensures { number < 10 ^ 17 → is_ascii_digit b ≡ true → result ≡ number * 10 + (b - 48) }
 {
     number
         .wrapping_mul(10)

@@ -3,11 +3,12 @@
 ghost use Rattle.std.specs.Prelude.{◌<◌};
 
 use crate::literals::{check_each, halves, types_of};
+use crate::plain_rows::{bad_field, row_spelled};
 use chunk_data::{Bytes, ColumnType, List};
 use csv::{ByteRecord, ReaderBuilder};
 use csv_rows::{RowReader, RowsFault, write_rows};
 use query_model::places::{BadField, BadPlace};
-use query_model::plain::{bad_field, row_spelled, row_text};
+use query_model::plain::row_text;
 use std::alloc::Global;
 use std::io::Cursor;
 use std::slice::from_ref;

@@ -20,6 +20,8 @@ mod literals;
 #[cfg(test)]
 mod outside_io_tests;
 #[cfg(test)]
+mod plain_rows;
+#[cfg(test)]
 mod query_model_tests;
 #[cfg(test)]
 mod select_planner_tests;

@@ -15,7 +15,7 @@ use std::test::Fail;
 /// What four reads of four bytes answer, a letter each: a digit for a block, `e` for the end, `p`
 /// for pending, `f` for failed. The bytes of the blocks follow.
 fn add_reads<F: FileReader>(reader: &mut F, out: &mut String) -> Result<(), AllocError>
-    requires { IsSome (F.position reader.old) }
+    requires { IsSome (F.reader reader.old).position }
 {
     let mut bytes = String::new(*out.allocator());
     let mut buf = [0u8; 4];

@@ -1,12 +1,12 @@
 use crate::literals::{bytes, check_each, halves, types_of};
+use crate::plain_rows::{bad_field, row_spelled};
 use chunk_data::{Bytes, ColumnType};
 use query_model::arithmetic::{add_int, add_uint, mul_int, mul_uint, sub_int, sub_uint};
 use query_model::numerals::{spelled_int, spelled_uint};
-use query_model::plain::{bad_field, row_spelled, rows_text};
+use query_model::plain::row_text;
 use query_model::processor_spec::{Kind, Spec};
 use query_model::query::Span;
 use std::alloc::Global;
-use std::slice::from_ref;
 use std::str::from_utf8;
 use std::test::Fail;
 
@@ -59,7 +59,7 @@ fn fields_of(alloc: Global, text: &str) -> Result<Vec<Bytes>, Fail> {
 // The text of a record's row, or its bad field.
 fn shown(alloc: Global, types: &[ColumnType], fields: &[Bytes]) -> Result<String, Fail> {
     if let Some(row) = row_spelled(alloc, types, fields)? {
-        let text = rows_text(alloc, from_ref(&row))?;
+        let text = row_text(alloc, row.as_slice())?;
         return Ok(String::from_str(alloc, from_utf8(&text).unwrap_or("?"))?);
     }
     if types.len() > 9 {

@@ -1,11 +1,11 @@
 -- Keys that have one code are one key.
-use Rattle.std.proofs.Common.{◌≡◌, ℕ, suc, ◌<◌, ◌≤◌, ◌+◌, ◌^◌, ◌≢◌, Bool, true, false, append_assoc, List, [], ◌∷◌, ◌++◌, length, map, flat_map, replicate, take, drop, get_or, refl, sym, ap, ap₂, ◌∙◌, arith, fold, w64, inl, inr, subst, cond, not, ◌||◌, IfOk, OnOk, Result, Vec, ℤ, pos}
+use Rattle.std.proofs.Common.{◌≡◌, ℕ, suc, ◌<◌, ◌≤◌, ◌+◌, ◌^◌, ◌≢◌, Bool, true, false, append_assoc, List, [], ◌∷◌, ◌++◌, length, map, flat_map, replicate, take, drop, get_or, refl, sym, ap, ap₂, ◌∙◌, arith, fold, w64, inl, inr, subst, cond, ◌||◌, IfOk, OnOk, Result, Vec, ℤ, pos}
 use Rattle.chunk_data.specs.declared.typed_value.Value.TheVariants.{Int, UInt, Text}
 use Rattle.chunk_data.specs.declared.typed_value.ColumnType.TheVariants as column
 use Rattle.chunk_data.specs.Values.{is_plain_text, is_text, plain_type}
 use Rattle.chunk_data.specs.declared.typed_value.PlainType.{PlainType}
 use Rattle.chunk_data.specs.declared.typed_value.PlainType.TheVariants as plain
-use Rattle.key_codes.proofs.Imports.{All, All-map, AllByRecursion, AreKeyValues, ColumnType, FindsCode, FindsCodes, HasKey, IsCell, IsSame, Row, Value, append-nil, at_drop_more, cases_eq, cases_lt, drop_all, drop_at, first_plain_type, first_key_column, flat_map-append, from_le_bytes-to_le_bytes_8, get_or-map, get_or_default, key_at, key_code, length-map, map-map, row_code, type_at, list_any, map-append, nat_list_eq_equiv, places_from, position_or_len, same_code, same_row, same_row_is, same_text, take-suc, take_at, to_le_bytes, value_at, value_bytes, value_code, with_key, from_le_bytes, cast_unsigned, cast_signed, plain_types_at}
+use Rattle.key_codes.proofs.Imports.{All, All-map, AllByRecursion, AreKeyValues, ColumnType, FindsCode, FindsCodes, HasKey, IsCell, IsSame, Row, Value, append-nil, at_drop_more, cases_eq, cases_lt, drop_all, drop_at, first_plain_type, first_key_column, flat_map-append, from_le_bytes-to_le_bytes_8, get_or-map, get_or_default, key_at, key_code, length-map, map-map, row_code, type_at, list_any, map-append, nat_list_eq_equiv, places_from, position_or_len, same_code, same_row, same_row_is, same_text, take-suc, take_at, to_le_bytes, value_at, value_bytes, value_code, with_key, from_le_bytes, plain_types_at}
 use Rattle.std.proofs.lemmas.Grind.{common_steps}
 use Rattle.key_codes.proofs.CodeLaws.{map-insert}
 
@@ -37,11 +37,8 @@ number-bytes m n xs ys p q e =
 
 values-one : (t : PlainType) (v w : Value) (xs ys : List ℕ) → IsCell t v → IsCell t w
     → value_bytes v ++ xs ≡ value_bytes w ++ ys → AreOne v w xs ys
-values-one t (Int y) (Int z) xs ys p q e =
-    let s = number-bytes (cast_unsigned w64 y) (cast_unsigned w64 z) xs ys p.2 q.2 e in
-    record { value = ap Int (sym p.1 ∙ ap (cast_signed w64) s.0 ∙ q.1); rest = s.1 }
-values-one t (UInt m) (UInt n) xs ys p q e =
-    let s = number-bytes m n xs ys p.1 q.1 e in record { value = ap UInt s.0; rest = s.1 }
+values-one t (Int y) (Int z) xs ys p q e = grind (arith, number-bytes)
+values-one t (UInt m) (UInt n) xs ys p q e = grind (arith, number-bytes)
 values-one t (Text a) (Text b) xs ys p q e =
     let s = number-bytes (length a) (length b) (a ++ xs) (b ++ ys) p.1 q.1
     (sym (append_assoc (to_le_bytes w64 (length a)) a xs) ∙ e
@@ -55,8 +52,7 @@ bytes-one : (types : List PlainType) (a b : Row) → AreKeyValues types a → Ar
 bytes-one [] [] [] p q e = refl
 bytes-one [] (v ∷ a) b p q e = absurd p
 bytes-one (t ∷ types) [] b p q e = absurd p
-bytes-one (t ∷ types) (v ∷ a) (w ∷ b) p q e = let o = values-one t v w (flat_map value_bytes a)
-    (flat_map value_bytes b) p.0 q.0 e in ap₂ ◌∷◌ o.value (bytes-one types a b p.1 q.1 o.rest)
+bytes-one (t ∷ types) (v ∷ a) (w ∷ b) p q e = grind (arith, values-one t v w, bytes-one types a b)
 bytes-one _ _ _ p q e = absurd q
 
 value-one : (t : PlainType) (v w : Value) → IsCell t v → IsCell t w
@@ -112,15 +108,13 @@ module _ (types : List PlainType) where
       → position_or_len (same_code (key_code k)) (map key_code keys)
       ≡ position_or_len (same_row k) keys
   place-key k p [] h = refl
-  place-key k p (x ∷ keys) h =
-      ap₂ (λ b n. cond (not b) (1 + n) 0) (codes-agree types k x p h.0) (place-key k p keys h.1)
+  place-key k p (x ∷ keys) h = grind (arith, codes-agree types k x, place-key k p keys)
 
   any-key : (k : Row) → AreKeyValues types k → (keys : List Row)
       → AllByRecursion (AreKeyValues types) keys
       → list_any (same_code (key_code k)) (map key_code keys) ≡ list_any (same_row k) keys
   any-key k p [] h = refl
-  any-key k p (x ∷ keys) h =
-      ap₂ (λ b c. b || c) (codes-agree types k x p h.0) (any-key k p keys h.1)
+  any-key k p (x ∷ keys) h = grind (arith, codes-agree types k x, any-key k p keys)
 
   with-code : (adds : Bool) (k : Row) → AreKeyValues types k → (keys : List Row)
       → AllByRecursion (AreKeyValues types) keys
@@ -171,10 +165,7 @@ module _ (types : List PlainType) where
 key-next : (places : List ℕ) (k : ℕ) (row : Row) → k < length places
     → key_at (take (k + 1) places) row
     ≡ key_at (take k places) row ++ value_at row (get_or places k 0) ∷ []
-key-next places k row lt =
-    let next : k + 1 ≡ suc k = omega arith in
-    ap (λ l. key_at l row) (ap (λ n. take n places) next ∙ take-suc places k 0 lt)
-    ∙ map-append (value_at row) (take k places) (get_or places k 0 ∷ [])
+key-next places k row lt = grind (arith, take-suc places k 0, map-append)
 
 pub bytes-next : (places : List ℕ) (k : ℕ) (row : Row) (code : List ℕ) (v : Value)
     → k < length places → code ≡ flat_map value_bytes (key_at (take k places) row) ++ value_bytes v
@@ -285,8 +276,7 @@ pub one-codes : (places : List ℕ) (rows : List Row) (vs : List Value) → leng
     → vs ≡ map (λ (row : Row). value_at row (first_key_column places)) rows
     → map value_code vs ≡ map (row_code places) rows
 one-codes [] rows vs one e = absurd (omega (arith, one))
-one-codes (c ∷ []) rows vs one e =
-    ap (map value_code) e ∙ map-map value_code (λ (row : Row). value_at row c) rows
+one-codes (c ∷ []) rows vs one e = grind (arith, map-map)
 one-codes (c ∷ d ∷ places) rows vs one e = absurd (omega (arith, one))
 
 pub one-keys : (types : List ColumnType) (places : List ℕ) (rows : List Row) (kind : ColumnType)
@@ -337,14 +327,11 @@ pub one-form : (types : List ColumnType) (places : List ℕ) (b : Bool)
     → length (plain_types_at types places) ≡ 1
     → is_plain_text (first_plain_type (plain_types_at types places)) ≡ b
     → (length places ≡ 1) × (is_text (type_at types (first_key_column places)) ≡ b)
-one-form types places b one e =
-    let long = sym (kinds-long types places) ∙ one in
-    (long, sym (ap is_plain_text (first-kind types places (omega (arith, long)))) ∙ e)
+one-form types places b one e = grind (arith, kinds-long, first-kind)
 
 pub several-code : (places : List ℕ) (row : Row) (code : List ℕ) → length places ≢ 1
     → code ≡ flat_map value_bytes (key_at places row) → code ≡ row_code places row
-several-code places row code ne e =
-    e ∙ sym (many-code (key_at places row) (λ f. ne (sym (length-map places (value_at row)) ∙ f)))
+several-code places row code ne e = grind (arith, many-code, length-map)
 
 -- each value of a column has what was seen of each
 pub cells-of : {A : Type 0} (kind : PlainType) (value : A → Value) (xs : List A) (d : A) (i : ℕ)
@@ -374,12 +361,7 @@ pub cells-more : {A : Type 0} (kind : PlainType) (value : A → Value) (xs : Lis
     → ((k : ℕ) → k < i → IsCell kind (value (get_or xs k d)))
     → IsCell kind (value (get_or xs i d))
     → (k : ℕ) → k < i + 1 → IsCell kind (value (get_or xs k d))
-cells-more kind value xs d i h cell k lt = elim (cases_lt k i) [
-  | inl before ↦ h k before
-  | inr le ↦
-      let same : i ≡ k = omega (arith, le, lt) in
-      subst (λ n. IsCell kind (value (get_or xs n d))) same cell
-]
+cells-more kind value xs d i h cell k lt = grind (arith, cases_lt)
 
 -- what is found of the codes is found of the keys
 module _ {Z E : Type 0} (r : Result (Vec ℕ Z) E) (adds : Bool)

@@ -1,5 +1,6 @@
 -- What holds of a query that no condition refuses.
-use Rattle.query_model.proofs.Imports.{All, All-cons, All-nil, AllByRecursion, ArithOp, Bool, CanBePicked, ColumnRef, ExprOf, FromColumn, HasNoCall, Item, ItemKind, OperandTyping, List, None, Option, Query, Refusal, Schema, Some, [], ambiguous_column, and_parts, arith, arith_typing, bad_join_key, bad_order_key, bare_columns, cond, expr_columns, expr_typing, false, filter, find, first_name, first_of_all, fits_where, flat_map, from_columns, is_call, is_grouped, is_key_of, is_typed, item_typing, length, length-append, list_all, list_any, listed, map, meant, nat_lt, not, not_grouped, not_keys, operands_of, option_map, plain, refl, refusal_of, star_name, table_columns, text_columns, too_wide, true, type_mismatch, typed, ungrouped_names, unknown_column, written, ℕ, ◌++◌, ◌==◌, ◌||◌, ◌∷◌, ◌≡◌, ◌≤◌, join_columns, refusals, output_names}
+use Rattle.query_model.proofs.Imports.{Formula, All, All-cons, All-nil, AllByRecursion, ArithOp, Bool, CanBePicked, ColumnRef, FromColumn, HasNoCall, Item, ItemKind, OperandTyping, List, None, Option, Query, Refusal, Schema, Some, [], ambiguous_column, and_parts, arith, arith_typing, bad_join_key, bad_order_key, bare_columns, cond, expr_columns, expr_typing, false, filter, find, first_name, first_of_all, fits_where, flat_map, from_columns, is_call, is_grouped, is_key_of, is_typed, item_typing, length, length-append, list_all, list_any, listed, map, meant, nat_lt, not, not_grouped, not_keys, option_map, plain, refl, refusal_of, star_name, table_columns, text_columns, too_wide, true, type_mismatch, typed, ungrouped_names, unknown_column, written, ℕ, ◌++◌, ◌==◌, ◌||◌, ◌∷◌, ◌≡◌, ◌≤◌, join_columns, refusals, output_names, or_parts, item_what, query_tree, sides_in}
+use Rattle.query_model.specs.Formulas as form
 use Rattle.query_model.specs.declared.query.ExprOf.TheVariants as expr
 use Rattle.query_model.specs.declared.query.ItemKind.TheVariants as kind
 use Rattle.query_model.specs.declared.query.Refusal.TheVariants as refuse
@@ -70,9 +71,10 @@ unless true r h = refl
 unless false r h = absurd cc
 
 pub record AllTypesFit (columns : List FromColumn) (q : Query) : Type 0 where
-  pub items : list_all (λ (i : Item). is_typed (item_typing columns i.what)) (listed q.items) ≡ true
-  pub filter : fits_where columns q.filter ≡ true
-  pub having : fits_where columns q.having ≡ true
+  pub items : list_all (λ (i : Item). is_typed (item_typing columns (item_what i.what)))
+      (listed q.items) ≡ true
+  pub filter : fits_where columns (query_tree q).filter ≡ true
+  pub having : fits_where columns (query_tree q).having ≡ true
 
 pub all_fit : (q : Query) (schemas : List Schema) → IsWithoutRefusal q schemas
     → AllTypesFit (from_columns q schemas) q
@@ -105,23 +107,19 @@ narrow q schemas none =
 
 -- Groups.
 
-or_true : (a b : Bool) → (a || b) ≡ false → (a ≡ false) × (b ≡ false)
-or_true false b h = (refl, h)
-or_true true b h = absurd cc
-
-no_call : (k : ItemKind) → is_call k ≡ false → HasNoCall k
+no_call : (k : ItemKind) → is_call (item_what k) ≡ false → HasNoCall k
 no_call (kind.Plain e) h = tt
 no_call (kind.Agg call) h = absurd cc
 
-no_calls : (items : List Item) → list_any (λ (i : Item). is_call i.what) items ≡ false
+no_calls : (items : List Item) → list_any (λ (i : Item). is_call (item_what i.what)) items ≡ false
     → All (λ (i : Item). HasNoCall i.what) items
 no_calls [] h = All-nil (λ (i : Item). HasNoCall i.what)
-no_calls (i ∷ items) h = search (arith, or_true, no_call, no_calls items)
+no_calls (i ∷ items) h = search (arith, or_parts, no_call, no_calls items)
 
 -- a query without groups has no call among its items
 pub ungrouped_items : (q : Query) → is_grouped q ≡ false
     → All (λ (i : Item). HasNoCall i.what) (listed q.items)
-ungrouped_items q h = search (arith, no_calls, or_true)
+ungrouped_items q h = search (arith, no_calls, or_parts)
 
 -- nothing is of a type that has no name of a column
 
@@ -135,18 +133,17 @@ untyped_arith op (typed s) y h k = absurd cc
 untyped_arith op (plain z) (typed t) h k = absurd cc
 untyped_arith op x y h k = refl
 
-no_name : (columns : List FromColumn) (e : ExprOf ColumnRef) → expr_columns e ≡ []
+no_name : (columns : List FromColumn) (e : Formula ColumnRef) → expr_columns e ≡ []
     → is_typed (expr_typing columns e) ≡ false
 unfolding expr_columns expr_typing
-no_name columns (expr.Column c) h = absurd cc
-no_name columns (expr.Number n) h = refl
-no_name columns (expr.Arith' op p a q b) h =
-    let each = none_twice (expr_columns a) (expr_columns b) h in
-    untyped_arith op (expr_typing columns a) (expr_typing columns b) (no_name columns a each.0)
-    (no_name columns b each.1)
+no_name columns (form.column c) h = absurd cc
+no_name columns (form.number n) h = refl
+no_name columns (form.arith op a b) h =
+    grind (arith, none_twice, untyped_arith, no_name columns a, no_name columns b)
 
 can_be_picked : (columns : List FromColumn) (is_key : ColumnRef → Bool) (k : ItemKind)
-    → not_keys is_key k ≡ [] → is_typed (item_typing columns k) ≡ true → CanBePicked is_key k
+    → not_keys is_key (item_what k) ≡ [] → is_typed (item_typing columns (item_what k)) ≡ true
+    → CanBePicked is_key k
 unfolding expr_typing
 can_be_picked columns is_key (kind.Plain (expr.Column c)) h t = search (arith)
 can_be_picked columns is_key (kind.Plain (expr.Number n)) h t = absurd cc
@@ -155,16 +152,19 @@ can_be_picked columns is_key (kind.Plain (expr.Arith' op p a q b)) h t =
 can_be_picked columns is_key (kind.Agg call) h t = tt
 
 all_can_be_picked : (columns : List FromColumn) (is_key : ColumnRef → Bool) (items : List Item)
-    → flat_map (λ (i : Item). not_keys is_key i.what) items ≡ [] → list_all (λ (i : Item). is_typed
-    (item_typing columns i.what)) items ≡ true → All (λ (i : Item). CanBePicked is_key i.what) items
+    → flat_map (λ (i : Item). not_keys is_key (item_what i.what)) items ≡ []
+    → list_all (λ (i : Item). is_typed (item_typing columns (item_what i.what))) items ≡ true
+    → All (λ (i : Item). CanBePicked is_key i.what) items
 all_can_be_picked columns is_key [] h t = All-nil (λ (i : Item). CanBePicked is_key i.what)
 all_can_be_picked columns is_key (i ∷ items) h t =
-    let each = none_twice (not_keys is_key i.what)
-    (flat_map (λ (i : Item). not_keys is_key i.what) items) h in
-    let fits = and_parts (is_typed (item_typing columns i.what))
-    (list_all (λ (i : Item). is_typed (item_typing columns i.what)) items) t in
-    All-cons (λ (i : Item). CanBePicked is_key i.what) i items (can_be_picked columns is_key i.what
-    each.0 fits.0) (all_can_be_picked columns is_key items each.1 fits.1)
+    grind (
+      arith,
+      none_twice,
+      and_parts,
+      All-cons,
+      can_be_picked,
+      all_can_be_picked columns is_key items,
+    )
 
 none_left : {A : Type 0} (test : A → Bool) (xs : List A) → filter (λ x. not (test x)) xs ≡ []
     → All (λ x. test x ≡ true) xs
@@ -185,15 +185,16 @@ no_first (name ∷ names) h = absurd cc
 pub record AreKeysOrCalls (columns : List FromColumn) (q : Query) : Type 0 where
   pub items : All (λ (i : Item). CanBePicked (is_key_of columns q.keys) i.what) (listed q.items)
   pub having : All (λ c. is_key_of columns q.keys c ≡ true)
-      (flat_map bare_columns (operands_of q.having))
+      (flat_map bare_columns (sides_in (query_tree q).having))
 
 pub are_keys : (q : Query) (schemas : List Schema) → IsWithoutRefusal q schemas → is_grouped q
     ≡ true → AreKeysOrCalls (from_columns q schemas) q
 are_keys q schemas a grouped =
     let columns = from_columns q schemas in
     let is_key : ColumnRef → Bool = λ c. is_key_of columns q.keys c in
-    let in_items = flat_map (λ (i : Item). not_keys is_key i.what) (listed q.items) in
-    let in_having = filter (λ c. not (is_key c)) (flat_map bare_columns (operands_of q.having)) in
+    let in_items = flat_map (λ (i : Item). not_keys is_key (item_what i.what)) (listed q.items) in
+    let bare = flat_map bare_columns (sides_in (query_tree q).having) in
+    let in_having = filter (λ c. not (is_key c)) bare in
     let none = no_first (ungrouped_names (from_columns q schemas) q) (rw grouped at a.grouped) in
     let last =
     none_twice (star_name q.items ++ map written in_items) (map written in_having) none in
@@ -201,6 +202,5 @@ are_keys q schemas a grouped =
     record {
       items = all_can_be_picked columns is_key (listed q.items)
           (none_mapped written in_items first.1) (all_fit q schemas a).items;
-      having = none_left is_key (flat_map bare_columns (operands_of q.having))
-          (none_mapped written in_having last.1);
+      having = none_left is_key bare (none_mapped written in_having last.1);
     }

@@ -42,7 +42,7 @@ sum_of_parts op sum none more part ((v ∷ vs) ∷ vss) =
 module _ (f : Value → Value → Value) (assoc : (a b c : Value) → f (f a b) c ≡ f a (f b c)) where
   fold-out : (a b : Value) (vs : List Value) → fold f (f a b) vs ≡ f a (fold f b vs)
   fold-out a b [] = refl
-  fold-out a b (v ∷ vs) = ap (λ w. fold f w vs) (assoc a b v) ∙ fold-out a (f b v) vs
+  fold-out a b (v ∷ vs) = grind (arith, fold-out a (f b v) vs)
 
   -- the choice of all is the choice of what the parts leave
   choice_of_parts : (op : Combine)
@@ -110,14 +110,7 @@ module _ (R : Value → Value → Ordering) (total : Rattle.std.specs.Cmp.IsTota
           (total.antisymm b a ∙ ap Rattle.std.specs.Ordering.ordering_reverse f)) ∙ h in absurd cc
 
   pub first-assoc : (a b c : Value) → first (first a b) c ≡ first a (first b c)
-  first-assoc a b c = go (is_lt (R b a)) (is_lt (R c b)) refl refl
-    where
-      go : (s t : Bool) → is_lt (R b a) ≡ s → is_lt (R c b) ≡ t
-          → first (cond s b a) c ≡ first a (cond t c b)
-      go true true e f = ap (λ u. cond u c b) f ∙ sym (ap (λ u. cond u c a) (lt-trans c b a f e))
-      go true false e f = ap (λ u. cond u c b) f ∙ sym (ap (λ u. cond u b a) e)
-      go false true e f = refl
-      go false false e f = ap (λ u. cond u c a) (le-trans a b c e f) ∙ sym (ap (λ u. cond u b a) e)
+  first-assoc a b c = grind (arith, lt-trans c b a, le-trans a b c)
 
 above_total : Rattle.std.specs.Cmp.IsTotalOrder (λ a b. value_cmp b a)
 above_total = record {

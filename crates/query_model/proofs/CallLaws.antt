@@ -1,21 +1,20 @@
 -- Calls that are counted, and calls that are placed one behind another.
-use Rattle.query_model.proofs.Imports.{AggCall, AreAdded, ArePicks, ColumnRef, EachWith, FromColumn, IsPick, IsPlacedCall, Item, List, Operand, [], ap, append_assoc, arith, cond, filter, flat_map, get_or, is_call_item, item_calls, length, length-append, map, map-append, operand_calls, place_in, refl, suc, take, take_more, total, ℕ, ◌++◌, ◌+◌, ◌<◌, ◌∙◌, ◌∷◌, ◌≡◌}
+use Rattle.query_model.proofs.Imports.{AggCall, AreAdded, ArePicks, ColumnRef, EachWith, FromColumn, IsPick, IsPlacedCall, Item, List, [], ap, append_assoc, arith, cond, filter, flat_map, get_or, is_call_item, item_calls, length, length-append, map, map-append, operand_calls, place_in, suc, take, take_more, total, ℕ, ◌++◌, ◌+◌, ◌<◌, ◌∙◌, ◌∷◌, ◌≡◌, OperandForm}
 
 total-append : (xs ys : List ℕ) → total (xs ++ ys) ≡ total xs + total ys
 total-append [] ys = omega arith
 total-append (x ∷ xs) ys = let e = total-append xs ys in omega (arith, e)
 
 -- the calls of operands in two lists
-pub calls_of_both : (xs ys : List (Operand ColumnRef)) → total (map operand_calls (xs ++ ys))
+pub calls_of_both : (xs ys : List (OperandForm ColumnRef)) → total (map operand_calls (xs ++ ys))
     ≡ total (map operand_calls xs) + total (map operand_calls ys)
 calls_of_both xs ys = search (arith, map-append, total-append)
 
 -- lists that are related one by one are as long
 pub length_each : {A B : Type 0} (R : A → B → Type 0) (xs : List A) (ys : List B) → EachWith R xs ys
     → length ys ≡ length xs
-length_each R [] [] h = refl
 length_each R (x ∷ xs) (y ∷ ys) h = ap suc (length_each R xs ys h.1)
-length_each R xs ys h = absurd h
+length_each R xs ys h = grind arith
 
 each_append : {A B : Type 0} (R : A → B → Type 0) (xs zs : List A) (ys ws : List B)
     → EachWith R xs ys → EachWith R zs ws → EachWith R (xs ++ zs) (ys ++ ws)
@@ -46,13 +45,8 @@ pub picks_last : (place : ColumnRef → ℕ) (k n : ℕ) (items : List Item) (pi
     (p : ℕ) → ArePicks place k items picks → n ≡ k + length (flat_map (λ (i : Item). item_calls
     i.what) items) → IsPick place n i.what p → ArePicks place k (items ++ i ∷ []) (picks ++ p ∷ [])
 picks_last place k n [] [] i p h e is = search (arith)
-picks_last place k n (x ∷ items) (q ∷ picks) i p h e is =
-    let long =
-    length-append (item_calls x.what) (flat_map (λ (i : Item). item_calls i.what) items) in (
-      h.0,
-      picks_last place (k + length (item_calls x.what)) n items picks i p h.1
-          (omega (arith, e, long)) is,
-    )
+picks_last place k n (x ∷ items) (q ∷ picks) i p h e is = grind
+    (arith, length-append, picks_last place (k + length (item_calls x.what)) n items picks i p)
 picks_last place k n items picks i p h e is = absurd h
 
 last_counted : (xs : List Item) (x : Item) → length (filter is_call_item xs)
@@ -64,6 +58,4 @@ last_counted (y ∷ xs) x = search (arith, last_counted xs x)
 pub one_more_counted : (items : List Item) (i : ℕ) (d : Item) (n m : ℕ) → i < length items
     → n ≡ length (filter is_call_item (take i items)) → m ≡ n + cond
     (is_call_item (get_or items i d)) 1 0 → m ≡ length (filter is_call_item (take (i + 1) items))
-one_more_counted items i d n m lt e f =
-    rw (take_more items i d lt) (f ∙ ap (λ k. k + cond (is_call_item (get_or items i d)) 1 0) e
-    ∙ last_counted (take i items) (get_or items i d))
+one_more_counted items i d n m lt e f = grind (arith, take_more items i d, last_counted)

@@ -126,16 +126,7 @@ module _ (n : ℕ) (key : Row → Row) (long : (r : Row) → length (key r) ≡ 
     states_of_group : (k : Row) (rows : List Row) → length k ≡ n
         → map (λ row. value_at row (n + length before)) (rows_with (take n) k (groups_of rows))
         ≡ partial call.op (map call.arg (rows_with key k rows))
-    states_of_group k rows e =
-        ap (map (λ row. value_at row (n + length before))) (group_with k rows)
-        ∙ go (rows_with key k rows) refl
-      where
-        go : (rs : List Row) → rows_with key k rows ≡ rs
-            → map (λ row. value_at row (n + length before))
-            (map (group_row key calls rows) (key_of k rs)) ≡ partial call.op (map call.arg rs)
-        go [] f = refl
-        go (r ∷ rs) f =
-            ap (λ v. v ∷ []) (state_at k rows e ∙ ap (λ l. combined call.op (map call.arg l)) f)
+    states_of_group k rows e = grind (arith, group_with, state_at)
 
     -- the values with a key, part by part
     abbrev values_of : Row → List (List Row) → List (List Value)
@@ -160,10 +151,7 @@ module _ (n : ℕ) (key : Row → Row) (long : (r : Row) → length (key r) ≡ 
         → combined (merge_of call.op) (map (λ row. value_at row (n + length before))
         (rows_with (take n) k (flat_map groups_of parts)))
         ≡ combined call.op (map call.arg (rows_with key k (joined_rows' parts)))
-    merged_state k parts e =
-        ap (combined (merge_of call.op)) (states_of_parts k parts e)
-        ∙ combined-merge call.op (values_of k parts)
-        ∙ ap (combined call.op) (rows_of_parts k parts)
+    merged_state k parts e = grind (arith, states_of_parts, combined-merge, rows_of_parts)
 
   abbrev ops : List Combine
   ops = map (λ (c : Call). c.op) calls

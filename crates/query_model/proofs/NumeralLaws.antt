@@ -1,5 +1,5 @@
 -- Digits read in turn spell the number of the whole numeral.
-use Rattle.query_model.proofs.Imports.{Bool, List, None, Some, [], and_then, ap, arith, cond, drop, drop_all, drop_more, false, fold, get_or, is_digit, length, list_all, nat_lt, numeral_below, refl, true, with_digit, with_digits, ℕ, ◌&&◌, ◌*◌, ◌+◌, ◌-◌, ◌<◌, ◌^◌, ◌∷◌, ◌≡◌, ◌≤◌}
+use Rattle.query_model.proofs.Imports.{List, None, Some, [], ap, arith, cond, drop, drop_all, drop_more, false, fold, get_or, is_ascii_digit, length, list_all, nat_lt, numeral_below, option_and_then, refl, true, with_digit, with_digits, ℕ, ◌&&◌, ◌*◌, ◌+◌, ◌-◌, ◌<◌, ◌^◌, ◌∷◌, ◌≡◌, ◌≤◌}
 
 abbrev pub next : ℕ → ℕ → ℕ
 next n b = n * 10 + (b - 48)
@@ -13,26 +13,12 @@ not_below n m h k = grind arith
 
 -- the digits in turn give the whole number, where it is in range
 pub with_digits-is : (bytes : List ℕ) (n : ℕ) → n < 2 ^ 64
-    → with_digits n bytes ≡ cond (list_all is_digit bytes && nat_lt (fold next n bytes) (2 ^ 64))
-    (Some (fold next n bytes)) None
+    → with_digits n bytes ≡ cond (list_all is_ascii_digit bytes
+    && nat_lt (fold next n bytes) (2 ^ 64)) (Some (fold next n bytes)) None
 unfolding with_digits
 with_digits-is [] n h = let e : nat_lt n (2 ^ 64) ≡ true = grind arith in rw e refl
 with_digits-is (b ∷ bytes) n h =
-    go (is_digit b) (nat_lt (next n b) (2 ^ 64)) refl (λ k. with_digits-is bytes (next n b) k)
-  where
-    go : (d c : Bool) → nat_lt (next n b) (2 ^ 64) ≡ c
-        → (next n b < 2 ^ 64 → with_digits (next n b) bytes ≡ cond (list_all is_digit bytes
-        && nat_lt (fold next (next n b) bytes) (2 ^ 64)) (Some (fold next (next n b) bytes)) None)
-        → and_then (cond (d && c) (Some (next n b)) None) (λ m. with_digits m bytes)
-        ≡ cond ((d && list_all is_digit bytes) && nat_lt (fold next (next n b) bytes) (2 ^ 64))
-        (Some (fold next (next n b) bytes)) None
-    go false c e more = refl
-    go true true e more = more (grind arith)
-    go true false e more =
-        let over : nat_lt (fold next (next n b) bytes) (2 ^ 64) ≡ false =
-        not_below _ _ e (fold-le bytes (next n b)) in
-        rw over (elim (list_all is_digit bytes) as (λ a. None ≡ cond (a && false)
-        (Some (fold next (next n b) bytes)) None) [ true ↦ refl | false ↦ refl ])
+    grind (arith, fold-le bytes (next n b), not_below, with_digits-is bytes (next n b))
 
 pub with_digits-numeral : (bytes : List ℕ) → 0 < length bytes
     → with_digits 0 bytes ≡ numeral_below (2 ^ 64) bytes
@@ -41,7 +27,7 @@ with_digits-numeral (b ∷ bytes) h = with_digits-is (b ∷ bytes) 0 (omega arit
 
 -- where one digit more is read
 pub with_digits-step : (bytes : List ℕ) (i n : ℕ) → i < length bytes → with_digits n (drop i bytes)
-    ≡ and_then (with_digit n (get_or bytes i 0)) (λ m. with_digits m (drop (i + 1) bytes))
+    ≡ option_and_then (λ m. with_digits m (drop (i + 1) bytes)) (with_digit n (get_or bytes i 0))
 unfolding with_digits
 with_digits-step bytes i n h = ap (with_digits n) (drop_more bytes i 0 h)
 

@@ -1,18 +1,12 @@
 -- The place of the first that passes a test.
-use Rattle.query_model.proofs.Imports.{Bool, List, [], arith, cond, false, get_or, length, list_any, place_of, refl, suc, take, true, zero, ℕ, ◌+◌, ◌<◌, ◌||◌, ◌∷◌, ◌≡◌, ◌≤◌}
+use Rattle.query_model.proofs.Imports.{Bool, List, [], arith, false, get_or, length, list_any, place_of, refl, suc, take, true, zero, ℕ, ◌+◌, ◌<◌, ◌||◌, ◌∷◌, ◌≡◌, ◌≤◌}
 
 -- the first that passes
 pub place_found : {A : Type 0} (test : A → Bool) (xs : List A) (i : ℕ) (d : A) → list_any test
     (take i xs) ≡ false → i < length xs → test (get_or xs i d) ≡ true → i ≡ place_of test xs
 place_found test [] i d none lt t = absurd (omega arith)
 place_found test (x ∷ xs) zero d none lt t = rw t refl
-place_found test (x ∷ xs) (suc i) d none lt t =
-    go (test x) none (λ n. place_found test xs i d n (omega arith) t)
-  where
-    go : (b : Bool) → (b || list_any test (take i xs)) ≡ false → (list_any test (take i xs) ≡ false
-        → i ≡ place_of test xs) → suc i ≡ cond b 0 (place_of test xs + 1)
-    go true n more = absurd cc
-    go false n more = let e = more n in omega (arith, e)
+place_found test (x ∷ xs) (suc i) d none lt t = grind (arith, place_found test xs i d)
 
 -- a place that was found is one of the places
 pub place_within : {A : Type 0} (test : A → Bool) (xs : List A) → list_any test xs ≡ true
@@ -25,13 +19,7 @@ pub place_at_end : {A : Type 0} (test : A → Bool) (xs : List A) (i : ℕ)
     → list_any test (take i xs) ≡ false → length xs ≤ i → length xs ≡ place_of test xs
 place_at_end test [] i none le = refl
 place_at_end test (x ∷ xs) zero none le = absurd (omega (arith, le))
-place_at_end test (x ∷ xs) (suc i) none le =
-    go (test x) none (λ n. place_at_end test xs i n (omega (arith, le)))
-  where
-    go : (b : Bool) → (b || list_any test (take i xs)) ≡ false → (list_any test (take i xs) ≡ false
-        → length xs ≡ place_of test xs) → suc (length xs) ≡ cond b 0 (place_of test xs + 1)
-    go true n more = absurd cc
-    go false n more = let m = more n in omega (arith, m)
+place_at_end test (x ∷ xs) (suc i) none le = grind (arith, place_at_end test xs i)
 
 pub place_of-le : {A : Type 0} (test : A → Bool) (xs : List A) → place_of test xs ≤ length xs
 place_of-le test [] = omega arith

@@ -1,5 +1,5 @@
 -- Texts written piece by piece.
-use Rattle.query_model.proofs.Imports.{List, Row, Value, [], ap, append-nil, append_assoc, arith, doubled, flat_map, get_or, join_with_byte, length, map, map-append, quoted, refl, row_front, row_text, rows_text, separator, suc, sym, take, take_all, take_more, value_text, zero, ℕ, ◌++◌, ◌+◌, ◌<◌, ◌∙◌, ◌∷◌, ◌≡◌, ◌≤◌, flat_map-append}
+use Rattle.query_model.proofs.Imports.{List, Row, Value, [], ap, append-nil, append_assoc, arith, doubled, flat_map, get_or, join_with_byte, length, map, map-append, quoted, refl, row_front, row_text, separator, suc, sym, take, take_all, take_more, value_text, zero, ℕ, ◌++◌, ◌+◌, ◌<◌, ◌∙◌, ◌∷◌, ◌≡◌, ◌≤◌, flat_map-append}
 
 -- one piece more of a list of pieces
 pub flat_map-take : {A B : Type 0} (f : A → List B) (xs : List A) (i : ℕ) (d : A) → i < length xs
@@ -18,15 +18,6 @@ quoted-more bytes text grown i d e h is = is ∙ ap (λ l. l ++ doubled (get_or 
 pub quoted-whole : (bytes text grown : List ℕ) (i : ℕ) → text ≡ 34 ∷ flat_map doubled (take i bytes)
     → length bytes ≤ i → grown ≡ text ++ 34 ∷ [] → grown ≡ quoted bytes
 quoted-whole bytes text grown i e h is = search (arith, take_all)
-
--- one row more
-pub rows_text-take : (rows : List Row) (i : ℕ) (d : Row) → i < length rows
-    → rows_text (take (i + 1) rows) ≡ rows_text (take i rows) ++ row_text (get_or rows i d)
-rows_text-take rows i d h = flat_map-take row_text rows i d h
-
-pub rows_text-whole : (rows : List Row) (i : ℕ) → length rows ≤ i
-    → rows_text (take i rows) ≡ rows_text rows
-rows_text-whole rows i h = ap rows_text (take_all i rows h)
 
 -- Values joined by commas.
 

@@ -1,7 +1,8 @@
 -- The checked query of a query that no condition refuses is typed.
-use Rattle.query_model.proofs.Imports.{AggCall, All, All-append, All-cons, All-head, All-map, All-nil, All-tail, All-weaker, ArePicks, ArePlainItems, Bool, CanBePicked, Checked, ColumnRef, ColumnType, CondOf, EachWith, Expr, FromColumn, Grouping, HasItsArgument, IsAnalysable, IsChecked, IsGrouping, IsItem, IsNoCall, IsPick, IsPlacedCall, IsPlacedItem, IsShape, IsTypedCall, IsTypedGrouping, IsTypedQuery, IsTypedShape, Item, ItemKind, Items, OperandTyping, List, Listed, NamePair, None, Operand, Option, Query, Schema, Shape, Some, Star, [], agg_typing, and_parts, ap, append_assoc, arith, bare_columns, call_type, calls_of, cond, cond_fits, cond_operands, expr_columns, expr_typing, false, filter, fits_where, flat_map, flat_map-append, from_columns, get_or-append-add, group_types, is_grouped, is_key_of, is_typed, item_calls, item_columns, item_typing, join_pairs, key_place, length, length-append, length-map, list_all, list_any, listed, map, means, meant, nat_lt, operand_columns, operands_of, place_in, place_of, plain, query_calls, refl, refusal_of, same_column, slice_index_or, subst, suc, sym, text_columns, true, typed, type_at, types_of, unfit, ℕ, ◌&&◌, ◌++◌, ◌+◌, ◌<◌, ◌==◌, ◌||◌, ◌∙◌, ◌∷◌, ◌≡◌, ◌≤◌}
+use Rattle.query_model.proofs.Imports.{OperandForm, AggCall, All, All-append, All-cons, All-head, All-map, All-nil, All-tail, All-weaker, ArePicks, ArePlainItems, Bool, CanBePicked, Checked, ColumnRef, ColumnType, CondOf, EachWith, Expr, FromColumn, Grouping, HasItsArgument, IsAnalysable, IsChecked, IsGrouping, IsItem, IsNoCall, IsPick, IsPlacedCall, IsPlacedItem, IsShape, IsTypedCall, IsTypedGrouping, IsTypedQuery, IsTypedShape, Item, ItemKind, Items, OperandTyping, List, Listed, NamePair, None, Operand, Option, Query, Schema, Shape, Some, Star, [], agg_typing, and_parts, ap, append_assoc, arith, bare_columns, call_type, calls_of, cond, cond_fits, cond_operands, expr_columns, expr_typing, false, filter, fits_where, flat_map, flat_map-append, from_columns, get_or-append-add, group_types, is_grouped, is_key_of, is_typed, item_calls, item_columns, item_typing, join_pairs, key_place, length, length-append, length-map, list_all, list_any, listed, map, means, meant, nat_lt, operand_columns, operands_of, place_in, place_of, plain, query_calls, refl, refusal_of, same_column, slice_index_or, subst, suc, sym, text_columns, true, typed, type_at, types_of, unfit, ℕ, ◌&&◌, ◌++◌, ◌+◌, ◌<◌, ◌==◌, ◌||◌, ◌∙◌, ◌∷◌, ◌≡◌, ◌≤◌, argument_form, cond_form, formula, item_what, option_map, query_tree, sides_in}
 use Rattle.chunk_data.specs.declared.typed_value.ColumnType.TheVariants as column
 use Rattle.query_model.specs.Names.{type_of}
+use Rattle.query_model.specs.Formulas as form
 use Rattle.query_model.specs.declared.query.CondOf.TheVariants as cond'
 use Rattle.query_model.specs.declared.query.ExprOf.TheVariants as expr
 use Rattle.query_model.specs.declared.query.Operand.TheVariants as operand
@@ -104,7 +105,7 @@ module _ (columns : List FromColumn) where
   -- Calls.
 
   abbrev IsFitCall : AggCall ColumnRef → Type 0
-  IsFitCall call = IsFit (agg_typing columns call.op call.arg)
+  IsFitCall call = IsFit (agg_typing columns call.op (argument_form call.arg))
 
   abbrev ArePlacedCalls : List (AggCall ColumnRef) → List (AggCall ℕ) → Type 0
   ArePlacedCalls calls placed = EachWith (IsPlacedCall place) calls placed
@@ -141,7 +142,8 @@ module _ (columns : List FromColumn) where
   calls_have_types front k [] [] at is has = tt
   calls_have_types front k (call ∷ calls) (p ∷ placed) at is has =
       let t = call_type p.op p.arg types in (
-        call_type_at front (types_of_calls placed) k t (agg_typing columns call.op call.arg) at
+        call_type_at front (types_of_calls placed) k t
+            (agg_typing columns call.op (argument_form call.arg)) at
             (call_is_of_kind columns call p (All-head HasItsArgument call calls has) is.0).type,
         subst (λ types. HaveTypesOf types columns (k + 1) calls)
             (append_assoc front (t ∷ []) (types_of_calls placed))
@@ -153,7 +155,8 @@ module _ (columns : List FromColumn) where
   -- The calls of a query whose types fit.
 
   abbrev AreTyped : List Item → Type 0
-  AreTyped items = list_all (λ (i : Item). is_typed (item_typing columns i.what)) items ≡ true
+  AreTyped items =
+      list_all (λ (i : Item). is_typed (item_typing columns (item_what i.what))) items ≡ true
 
   abbrev calls_in_items : List Item → List (AggCall ColumnRef)
   calls_in_items items = flat_map (λ (i : Item). item_calls i.what) items
@@ -161,35 +164,24 @@ module _ (columns : List FromColumn) where
   item_calls_fit : (items : List Item) → AreTyped items → All IsFitCall (calls_in_items items)
   item_calls_fit [] h = All-nil IsFitCall
   item_calls_fit (i ∷ items) h =
-      let each = and_parts (is_typed (item_typing columns i.what))
-      (list_all (λ (i : Item). is_typed (item_typing columns i.what)) items) h in
-      All-append IsFitCall (item_calls i.what) (calls_in_items items) (here i.what each.0)
-      (item_calls_fit items each.1)
-    where
-      fit_typed : (k : OperandTyping) → is_typed k ≡ true → IsFit k
-      fit_typed (typed t) h = tt
-      fit_typed k h = absurd cc
+      grind (arith, and_parts, All-append, All-cons, All-nil, item_calls_fit items)
 
-      here : (k : ItemKind) → is_typed (item_typing columns k) ≡ true → All IsFitCall (item_calls k)
-      here (kind.Plain e) h = All-nil IsFitCall
-      here (kind.Agg call) h = All-cons IsFitCall call []
-          (fit_typed (agg_typing columns call.op call.arg) h) (All-nil IsFitCall)
-
-  cond_calls_fit : (c : CondOf ColumnRef) → cond_fits columns c ≡ true
+  cond_calls_fit : (c : CondOf ColumnRef) → cond_fits columns (cond_form c) ≡ true
       → All IsFitCall (flat_map calls_of (cond_operands c))
   unfolding cond_operands cond_fits
   cond_calls_fit (cond'.Compare op a b) h = search (arith, IsFit)
   cond_calls_fit (cond'.And' p a q b) h =
-      let each = and_parts (cond_fits columns a) (cond_fits columns b) h in
+      let each = and_parts (cond_fits columns (cond_form a)) _ h in
       rw (flat_map-append calls_of (cond_operands a) (cond_operands b))
       (All-append IsFitCall _ _ (cond_calls_fit a each.0) (cond_calls_fit b each.1))
   cond_calls_fit (cond'.Or' p a q b) h =
-      let each = and_parts (cond_fits columns a) (cond_fits columns b) h in
+      let each = and_parts (cond_fits columns (cond_form a)) _ h in
       rw (flat_map-append calls_of (cond_operands a) (cond_operands b))
       (All-append IsFitCall _ _ (cond_calls_fit a each.0) (cond_calls_fit b each.1))
   cond_calls_fit (cond'.Not' p a) h = cond_calls_fit a h
 
-  having_calls_fit : (h : Option (CondOf ColumnRef)) → fits_where columns h ≡ true
+  having_calls_fit : (h : Option (CondOf ColumnRef))
+      → fits_where columns (option_map cond_form h) ≡ true
       → All IsFitCall (flat_map calls_of (operands_of h))
   having_calls_fit None fits = All-nil IsFitCall
   having_calls_fit (Some c) fits = cond_calls_fit c fits
@@ -222,22 +214,23 @@ module _ (columns : List FromColumn) where
 module _ (P : ColumnRef → Type 0) (q : Query) (h : All P (text_columns q)) where
   abbrev before_keys : List ColumnRef
   before_keys =
-      flat_map (λ (i : Item). item_columns i.what) (listed q.items)
+      flat_map (λ (i : Item). item_columns (item_what i.what)) (listed q.items)
       ++ flat_map (λ (p : NamePair). p.left ∷ p.right ∷ []) (join_pairs q.join)
-      ++ flat_map operand_columns (operands_of q.filter)
+      ++ flat_map operand_columns (sides_in (query_tree q).filter)
 
   in_keys : All P q.keys
   in_keys =
       All-behind P before_keys q.keys
-      (All-front P (before_keys ++ q.keys) (flat_map operand_columns (operands_of q.having)) h)
+      (All-front P (before_keys ++ q.keys)
+      (flat_map operand_columns (sides_in (query_tree q).having)) h)
 
-  in_having : All P (flat_map operand_columns (operands_of q.having))
+  in_having : All P (flat_map operand_columns (sides_in (query_tree q).having))
   in_having = search (arith, All-behind)
 
-bare_among : (P : ColumnRef → Type 0) (os : List (Operand ColumnRef))
+bare_among : (P : ColumnRef → Type 0) (os : List (OperandForm ColumnRef))
     → All P (flat_map operand_columns os) → All P (flat_map bare_columns os)
 bare_among P [] h = All-nil P
-bare_among P (operand.Plain e ∷ os) h =
+bare_among P (form.plain e ∷ os) h =
     All-append P (expr_columns e) (flat_map bare_columns os)
     (All-front P (expr_columns e) (flat_map operand_columns os) h)
     (bare_among P os (All-behind P (expr_columns e) (flat_map operand_columns os) h))
@@ -261,18 +254,18 @@ plain_items_typed columns (Listed items) es is h = go items es is h
   where
     here : (k : ItemKind) (alias : Option (List ℕ)) (e : Expr)
         → IsPlacedItem (place_in columns) (record { what = k; alias = alias }) e
-        → is_typed (item_typing columns k) ≡ true → IsItem (types_of columns) e
+        → is_typed (item_typing columns (item_what k)) ≡ true → IsItem (types_of columns) e
     here (kind.Plain a) alias e is t =
-        is_item (types_of columns) e (expr_typing columns a) (expr_is_of_kind (types_of columns)
-        columns (place_in columns) a e (every_column columns (expr_columns a)) is) t
+        is_item (types_of columns) e (expr_typing columns (formula a))
+        (expr_is_of_kind (types_of columns) columns (place_in columns) a e
+        (every_column columns (expr_columns (formula a))) is) t
     here (kind.Agg call) alias e is t = absurd is
 
     go : (items : List Item) (es : List Expr) → EachWith (IsPlacedItem (place_in columns)) items es
         → AreTyped columns items → All (IsItem (types_of columns)) es
     go [] [] is h = All-nil (IsItem (types_of columns))
     go (i ∷ items) (e ∷ es) is h =
-        let each = and_parts (is_typed (item_typing columns i.what))
-        (list_all (λ (i : Item). is_typed (item_typing columns i.what)) items) h in
+        let each = and_parts (is_typed (item_typing columns (item_what i.what))) _ h in
         All-cons (IsItem (types_of columns)) e es (here i.what i.alias e is.0 each.0)
         (go items es is.1 each.1)
     go items es is h = absurd is
@@ -301,9 +294,10 @@ grouping_typed q columns g is can fit are known one =
       having =
           rw types_are (filter_is_typed (front ++ rest) columns (key_place columns q.keys)
           (length q.keys + length in_items) q.having g.having
-          (all_well_placed columns q.keys rest (flat_map bare_columns (operands_of q.having))
+          (all_well_placed columns q.keys rest
+          (flat_map bare_columns (sides_in (query_tree q).having))
           (in_keys (MeansOne columns) q one)
-          (bare_among (MeansOne columns) (operands_of q.having)
+          (bare_among (MeansOne columns) (sides_in (query_tree q).having)
           (in_having (MeansOne columns) q one)) are.having)
           (have_types_both (front ++ rest) columns (length q.keys) in_items in_having_calls
           (calls_have_types columns front (length q.keys) (query_calls q) g.calls long is.calls
@@ -330,7 +324,7 @@ checked_is_typed q schemas c can none is =
       items = shape_typed (is_grouped q) refl c.shape is.shape;
       filter =
           filter_is_typed (types_of columns) columns (place_in columns) 0 q.filter c.filter
-          (every_column columns (flat_map bare_columns (operands_of q.filter)))
+          (every_column columns (flat_map bare_columns (sides_in (query_tree q).filter)))
           (rw (no_calls (operands_of q.filter) can.filter) tt) is.filter
           (all_fit q schemas (unrefused_is_accepted q schemas none)).filter;
     }

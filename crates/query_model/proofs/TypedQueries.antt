@@ -1,14 +1,11 @@
 -- A query whose types fit has typed items and a typed condition, once its names have places.
-use Rattle.query_model.proofs.Imports.{AggCall, AggOp, All, All-head, All-nil, AreColumnsFrom, AreNumbersAlike, ArithOp, Bool, BothOrNone, CanHold, ColumnRef, ColumnType, CompareOp, Cond, CondOf, Count, Expr, ExprOf, FromColumn, HasItsArgument, IsGroupedOperand, IsItem, IsPlaced, IsPlacedCall, IsPlacedCond, IsTyped, IsTypedCall, IsTypedCond, IsTypedFilter, IsTypedOperand, OperandTyping, List, None, Operand, Option, Some, [], agg_typing, and_parts, append-nil, arith, arith_typing, arith_type, bare_columns, call_typing, call_type, calls_of, can_hold, comparable, cond, cond_fits, cond_operands, expr_columns, expr_typing, false, fits_where, flat_map, flat_map-append, is_some, is_text, is_typed, known_typing, length, means, meant_type, not, not-true, operand_typing, operand_type, operands_of, place_in, place_of, plain, number_type, plain_of, plain_type, pos, refl, result_type, same_plain-is, same_type, subst, suc, sym, takes_argument, true, typed, types_of, unfit, ℕ, ℤ, ⊤, ◌&&◌, ◌++◌, ◌+◌, ◌∙◌, ◌∷◌, ◌≡◌, ◌≤◌}
-use Rattle.chunk_data.specs.declared.typed_value.PlainType.{PlainType}
-use Rattle.chunk_data.specs.declared.typed_value.PlainType.TheVariants as plain'
+use Rattle.query_model.proofs.Imports.{AggCall, AggOp, All, All-head, All-nil, AreColumnsFrom, AreNumbersAlike, ArithOp, BothOrNone, CanHold, ColumnRef, ColumnType, CompareOp, Cond, CondOf, Count, Expr, ExprOf, FromColumn, HasItsArgument, IsGroupedOperand, IsItem, IsPlaced, IsPlacedCall, IsPlacedCond, IsTyped, IsTypedCall, IsTypedCond, IsTypedFilter, IsTypedOperand, OperandTyping, List, None, Operand, Option, Some, [], agg_typing, and_parts, append-nil, arith, arith_typing, arith_type, bare_columns, call_typing, call_type, calls_of, comparable, cond_fits, cond_operands, expr_columns, expr_typing, false, fits_where, flat_map, flat_map-append, is_some, is_text, is_typed, known_typing, length, means, meant_type, not, not-true, operand_typing, operand_type, operands_of, place_in, place_of, plain, number_type, plain_of, refl, result_type, same_plain-is, same_type, subst, sym, takes_argument, true, typed, types_of, unfit, ℕ, ℤ, ⊤, ◌&&◌, ◌++◌, ◌+◌, ◌∙◌, ◌∷◌, ◌≡◌, ◌≤◌, argument_form, cond_form, formula, map, map-append, operand_form, option_map, sides_in}
 use Rattle.query_model.specs.Names.{type_of}
-use Rattle.query_model.specs.Refusals.{plain_holds}
-use Rattle.query_model.specs.Typing.{PlainHolds}
 use Rattle.query_model.specs.declared.query.ExprOf.TheVariants as expr
 use Rattle.query_model.specs.declared.query.Operand.TheVariants as operand
 use Rattle.query_model.specs.declared.query.CondOf.TheVariants as cond'
 use Rattle.query_model.proofs.Placed.{All-front, All-behind}
+use Rattle.query_model.proofs.SameTrees.{forms-are-sides}
 use Rattle.query_model.proofs.WorkedRows.{Place}
 
 -- A placed expression is of a kind. Nothing is said of one whose types don't fit.
@@ -34,14 +31,6 @@ column_is_of_kind c (x ∷ columns) = search (arith, column_is_of_kind c columns
 
 -- Arithmetic.
 
-held_plain : (p : PlainType) (z : ℤ) → plain_holds p z ≡ true → PlainHolds p z
-held_plain plain'.Int64 (pos n) h = grind arith
-held_plain plain'.UInt64 (pos n) h = grind arith
-held_plain p z h = grind arith
-
-held : (t : ColumnType) (z : ℤ) → can_hold t z ≡ true → CanHold t z
-held t z h = held_plain (plain_type t) z h
-
 alike_types : (s t : ColumnType) → (same_type s t && not (is_text s)) ≡ true → AreNumbersAlike s t
 alike_types s t h =
     let both = and_parts (same_type s t) (not (is_text s)) h in
@@ -66,21 +55,14 @@ module _ (types : List ColumnType) where
     alike_arith : (s t : ColumnType) → IsOfKind types a (typed s) → IsOfKind types b (typed t)
         → IsOfKind types (expr.Arith' op p a q b) (arith_typing op (typed s) (typed t))
     unfolding type_of
-    alike_arith s t h k = go (same_type s t && not (is_text s)) refl
-      where
-        go : (x : Bool) → (same_type s t && not (is_text s)) ≡ x
-            → IsOfKind types (expr.Arith' op p a q b) (cond x (typed (arith_type op s t)) unfit)
-        go true e =
-            let alike = alike_types s t e in
-            ((h.0, k.0, rw (h.1, k.1, h.2, k.2) alike), refl, rw (h.2, k.2) refl)
-        go false e = tt
+    alike_arith s t h k = grind (arith, alike_types)
 
     arith_is_of_kind : (x y : OperandTyping) → IsOfKind types a x → IsOfKind types b y
         → IsOfKind types (expr.Arith' op p a q b) (arith_typing op x y)
     unfolding type_of
     arith_is_of_kind (typed s) (typed t) h k = alike_arith s t h k
-    arith_is_of_kind (typed t) (plain z) h k = search (arith, held, type_of_number, type_behind)
-    arith_is_of_kind (plain z) (typed t) h k = search (arith, held, type_of_number, type_before)
+    arith_is_of_kind (typed t) (plain z) h k = search (arith, type_of_number, type_behind)
+    arith_is_of_kind (plain z) (typed t) h k = search (arith, type_of_number, type_before)
     arith_is_of_kind x y h k = tt
 
   -- Conditions.
@@ -130,7 +112,8 @@ module _ (types : List ColumnType) (columns : List FromColumn) (place : ColumnRe
   Placed c = IsWellPlaced types columns place c
 
   pub expr_is_of_kind : (e : ExprOf ColumnRef) (p : Expr) → All (IsWellPlaced types columns place)
-      (expr_columns e) → IsPlaced place e p → IsOfKind types p (expr_typing columns e)
+      (expr_columns (formula e)) → IsPlaced place e p
+      → IsOfKind types p (expr_typing columns (formula e))
   unfolding expr_columns expr_typing
   expr_is_of_kind (expr.Column c) (expr.Column k) h is =
       subst (λ (n : ℕ). IsOfKind types (expr.Column n) (known_typing (meant_type columns c)))
@@ -138,9 +121,10 @@ module _ (types : List ColumnType) (columns : List FromColumn) (place : ColumnRe
       (All-head Placed c [] h)
   expr_is_of_kind (expr.Number m) (expr.Number n) h is = search (arith)
   expr_is_of_kind (expr.Arith' op p a q b) (expr.Arith' o r c s d) h is =
-      rw is.0 (arith_is_of_kind types o r s c d (expr_typing columns a) (expr_typing columns b)
-      (expr_is_of_kind a c (All-front Placed (expr_columns a) (expr_columns b) h) is.1)
-      (expr_is_of_kind b d (All-behind Placed (expr_columns a) (expr_columns b) h) is.2))
+      rw is.0 (arith_is_of_kind types o r s c d (expr_typing columns (formula a))
+      (expr_typing columns (formula b))
+      (expr_is_of_kind a c (All-front Placed (expr_columns (formula a)) _ h) is.1)
+      (expr_is_of_kind b d (All-behind Placed (expr_columns (formula a)) _ h) is.2))
   expr_is_of_kind e p h is = absurd is
 
 -- types that fit
@@ -171,101 +155,106 @@ over_argument types op e k h is = record { typed = λ f. absurd f; type = tt }
 
 pub call_is_of_kind : (columns : List FromColumn) (call : AggCall ColumnRef) (placed : AggCall ℕ)
     → HasItsArgument call → IsPlacedCall (place_in columns) call placed
-    → IsCallOfKind (types_of columns) placed (agg_typing columns call.op call.arg)
+    → IsCallOfKind (types_of columns) placed (agg_typing columns call.op (argument_form call.arg))
 call_is_of_kind columns call placed has is =
     rw (← is.0) (go call.op call.arg placed.arg has is.1)
   where
     go : (op : AggOp) (a : Option (ExprOf ColumnRef)) (p : Option Expr)
         → is_some a ≡ takes_argument op → BothOrNone (IsPlaced (place_in columns)) a p
-        → IsCallOfKind (types_of columns) (record { op = op; arg = p }) (agg_typing columns op a)
+        → IsCallOfKind (types_of columns) (record { op = op; arg = p })
+        (agg_typing columns op (argument_form a))
     go Count None None h each = record { typed = λ f. tt; type = refl }
     go op None None h each = absurd cc
     go op (Some e) (Some p) h each =
-        over_argument (types_of columns) op p (expr_typing columns e) h
+        over_argument (types_of columns) op p (expr_typing columns (formula e)) h
         (expr_is_of_kind (types_of columns) columns (place_in columns) e p
-        (every_column columns (expr_columns e)) each)
+        (every_column columns (expr_columns (formula e))) each)
     go op a p h each = absurd each
 
 -- the columns from column k on have the types of the calls
 abbrev pub HaveTypesOf : List ColumnType → List FromColumn → ℕ → List (AggCall ColumnRef) → Type 0
 HaveTypesOf types columns k [] = ⊤
 HaveTypesOf types columns k (call ∷ calls) = IsOfKind types (expr.Column k)
-    (agg_typing columns call.op call.arg) × HaveTypesOf types columns (k + 1) calls
+    (agg_typing columns call.op (argument_form call.arg)) × HaveTypesOf types columns (k + 1) calls
 
 pub have_types_both : (types : List ColumnType) (columns : List FromColumn) (k : ℕ)
     (xs ys : List (AggCall ColumnRef)) → HaveTypesOf types columns k (xs ++ ys)
     → HaveTypesOf types columns k xs × HaveTypesOf types columns (k + length xs) ys
 have_types_both types columns k [] ys h = (tt, rw (let same : k + 0 ≡ k = omega arith in same) h)
 have_types_both types columns k (x ∷ xs) ys h =
-    let more = have_types_both types columns (k + 1) xs ys h.1 in (
-      (h.0, more.0),
-      rw (let same : k + suc (length xs) ≡ k + 1 + length xs = omega arith in same) more.1,
-    )
+    grind (arith, have_types_both types columns (k + 1) xs ys)
 
 module _ (types : List ColumnType) (columns : List FromColumn) (place : ColumnRef → ℕ) where
   -- of operands whose calls stand from column k on: the names are well placed, and the calls have
   -- their types
   record ArePlaced (k : ℕ) (os : List (Operand ColumnRef)) : Type 0 where
-    names : All (IsWellPlaced types columns place) (flat_map bare_columns os)
+    names : All (IsWellPlaced types columns place) (flat_map bare_columns (map operand_form os))
     calls : HaveTypesOf types columns k (flat_map calls_of os)
 
   placed_operand : (k : ℕ) (a : Operand ColumnRef) (b : Operand ℕ) → ArePlaced k (a ∷ [])
-      → IsGroupedOperand place k a b → IsOperandOfKind types b (operand_typing columns a)
+      → IsGroupedOperand place k a b
+      → IsOperandOfKind types b (operand_typing columns (operand_form a))
   placed_operand k (operand.Plain e) (operand.Plain p) h is =
-      operand_is_of_kind types p (expr_typing columns e)
+      operand_is_of_kind types p (expr_typing columns (formula e))
       (expr_is_of_kind types columns place e p (rw append-nil at h.names) is)
   placed_operand k (operand.Text a) (operand.Text bytes) h is = (tt, refl)
   placed_operand k (operand.Agg call) (operand.Plain (expr.Column c)) h is =
-      rw is (operand_is_of_kind types (expr.Column k) (agg_typing columns call.op call.arg)
-      h.calls.0)
+      grind (arith, operand_is_of_kind)
   placed_operand k a b h is = absurd is
 
   two_sides : (k : ℕ) (a b : List (Operand ColumnRef)) → ArePlaced k (a ++ b)
       → ArePlaced k a × ArePlaced (k + length (flat_map calls_of a)) b
   two_sides k a b h =
       let P : ColumnRef → Type 0 = IsWellPlaced types columns place in
-      let names = rw (flat_map-append bare_columns a b) at h.names in
+      let names = rw (
+        map-append operand_form a b,
+        flat_map-append bare_columns
+            (map operand_form a) (map operand_form b),
+      ) at h.names in
       let calls = have_types_both types columns k (flat_map calls_of a) (flat_map calls_of b)
       (rw (flat_map-append calls_of a b) at h.calls) in (
         record {
-          names = All-front P (flat_map bare_columns a) (flat_map bare_columns b) names;
+          names = All-front P (flat_map bare_columns (map operand_form a)) _ names;
           calls = calls.0;
         },
         record {
-          names = All-behind P (flat_map bare_columns a) (flat_map bare_columns b) names;
+          names = All-behind P (flat_map bare_columns (map operand_form a)) _ names;
           calls = calls.1;
         },
       )
 
   -- a condition whose names are well placed is typed where its types fit
   cond_is_typed : (k : ℕ) (c : CondOf ColumnRef) (p : Cond) → ArePlaced k (cond_operands c)
-      → IsPlacedCond place k c p → cond_fits columns c ≡ true → IsTypedCond types p
+      → IsPlacedCond place k c p → cond_fits columns (cond_form c) ≡ true → IsTypedCond types p
   unfolding cond_operands cond_fits
   cond_is_typed k (cond'.Compare op a b) (cond'.Compare op2 c d) h is fits =
-      let sides = two_sides k (a ∷ []) (b ∷ []) h in
-      comparison_is_typed types op2 c d (operand_typing columns a) (operand_typing columns b)
-      (placed_operand k a c sides.0 is.1)
-      (placed_operand (k + length (calls_of a)) b d (rw append-nil at sides.1) is.2) fits
+      grind (arith, two_sides k (a ∷ []) (b ∷ []), append-nil, placed_operand, comparison_is_typed)
   cond_is_typed k (cond'.And' p a q b) (cond'.And' r c s d) h is fits =
-      let sides = two_sides k (cond_operands a) (cond_operands b) h in
-      let each = and_parts (cond_fits columns a) (cond_fits columns b) fits in (
-        cond_is_typed k a c sides.0 is.0 each.0,
-        cond_is_typed (k + length (flat_map calls_of (cond_operands a))) b d sides.1 is.1 each.1,
+      grind (
+        arith,
+        two_sides k (cond_operands a) (cond_operands b),
+        and_parts,
+        cond_is_typed k a c,
+        cond_is_typed (k + length (flat_map calls_of (cond_operands a))) b d,
       )
   cond_is_typed k (cond'.Or' p a q b) (cond'.Or' r c s d) h is fits =
-      let sides = two_sides k (cond_operands a) (cond_operands b) h in
-      let each = and_parts (cond_fits columns a) (cond_fits columns b) fits in (
-        cond_is_typed k a c sides.0 is.0 each.0,
-        cond_is_typed (k + length (flat_map calls_of (cond_operands a))) b d sides.1 is.1 each.1,
+      grind (
+        arith,
+        two_sides,
+        and_parts,
+        cond_is_typed k a c,
+        cond_is_typed (k + length (flat_map calls_of (cond_operands a))) b d,
       )
   cond_is_typed k (cond'.Not' p a) (cond'.Not' r c) h is fits = cond_is_typed k a c h is fits
   cond_is_typed k c p h is fits = absurd is
 
   pub filter_is_typed : (k : ℕ) (f : Option (CondOf ColumnRef)) (p : Option Cond)
-      → All (IsWellPlaced types columns place) (flat_map bare_columns (operands_of f))
+      → All (IsWellPlaced types columns place)
+      (flat_map bare_columns (sides_in (option_map cond_form f)))
       → HaveTypesOf types columns k (flat_map calls_of (operands_of f))
-      → BothOrNone (IsPlacedCond place k) f p → fits_where columns f ≡ true → IsTypedFilter types p
+      → BothOrNone (IsPlacedCond place k) f p → fits_where columns (option_map cond_form f) ≡ true
+      → IsTypedFilter types p
   filter_is_typed k None None h t is fits = tt
   filter_is_typed k (Some c) (Some p) h t is fits =
-      cond_is_typed k c p (record { names = h; calls = t }) is fits
+      cond_is_typed k c p (record { names = rw (forms-are-sides c) h; calls = t }) is fits
   filter_is_typed k f p h t is fits = absurd is

@@ -1,6 +1,6 @@
 -- Worked queries from their names to their answers: grouping, HAVING, aliases, keys, order, limit
 -- and join.
-use Rattle.query_model.proofs.Imports.{AggCall, Checked, ColumnRef, ColumnType, Count, Database, Grouped, IsAnswer, IsChecked, List, Max, Mul, None, Query, Row, Schema, Some, Sum, UInt, [], answer_text, arith, codes, cond_fits, cond_operands, enough, expr_columns, expr_typing, false, lit<, map, parts_rows, refl, refusal_of, true, ℕ, ◌++◌, ◌∷◌, ◌≡◌}
+use Rattle.query_model.proofs.Imports.{AggCall, Checked, ColumnRef, ColumnType, Count, Database, Grouped, IsAnswer, IsChecked, List, Max, Mul, None, Query, Row, Schema, Some, Sum, UInt, [], answer_text, arith, codes, cond_fits, cond_operands, enough, expr_columns, expr_typing, false, lit<, map, parts_rows, refl, refusal_of, true, ℕ, ◌++◌, ◌∷◌, ◌≡◌, sides_of}
 use Rattle.std.specs.Fmt.{digits}
 use Rattle.chunk_data.specs.declared.typed_value.ColumnType.TheVariants as column
 use Rattle.query_model.specs.declared.query.CompareOp.TheVariants as compare
@@ -97,7 +97,7 @@ checked_join = record joined_lr {
 }
 
 pub join_is_accepted : refusal_of (join_on left_k right_k) left_and_right ≡ None
-unfolding refusal_of expr_columns cond_operands expr_typing cond_fits digits
+unfolding refusal_of expr_columns cond_operands sides_of expr_typing cond_fits digits
 join_is_accepted = refl
 
 -- a pair that is written the other way round means the same
@@ -161,7 +161,7 @@ module _ (p q : Place) where
   }
 
   pub totals_are_accepted : refusal_of totals_query sales ≡ None
-  unfolding refusal_of expr_columns cond_operands expr_typing cond_fits digits
+  unfolding refusal_of expr_columns cond_operands sides_of expr_typing cond_fits digits
   totals_are_accepted = refl
 
   pub totals_are_checked : IsChecked totals_query sales totals

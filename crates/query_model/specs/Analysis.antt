@@ -3,8 +3,8 @@ use Rattle.std.specs.Prelude.{◌<◌, ◌≡◌, ◌⊎◌}
 use Rattle.query_model.specs.Prelude.{AggCall, AggOp, All, Bool, Checked, ColumnRef, ColumnType, Count, Grouping, ItemKind, List, Max, Min, None, Operand, Option, Query, Refusal, Schema, Shape, Some, Sum, false, is_some, length, true, ⊤}
 use Rattle.query_model.specs.Expressions.{Cond}
 use Rattle.query_model.specs.Typing.{IsItem, IsTypedCall, IsTypedCond, group_types}
-use Rattle.query_model.specs.Checks.{query_calls}
-use Rattle.query_model.specs.Refusals.{from_columns, operands_of, refusal_of, types_of}
+use Rattle.query_model.specs.Checks.{operands_of, query_calls}
+use Rattle.query_model.specs.Refusals.{from_columns, refusal_of, types_of}
 use Rattle.query_model.specs.declared.query.ExprOf.TheVariants as expr
 use Rattle.query_model.specs.declared.query.Operand.TheVariants as operand
 use Rattle.query_model.specs.declared.query.ItemKind.TheVariants as kind

@@ -3,7 +3,8 @@
 use Rattle.std.specs.Prelude.{if◌then◌else◌, ◌++◌, ◌+◌, ◌==◌, ◌∷◌, ◌≡◌}
 use Rattle.query_model.specs.Prelude.{AggCall, Bool, Checked, CheckedJoin, ColumnRef, ColumnType, CondOf, ExprOf, Grouping, Item, ItemKind, Items, Join, KeyPair, List, Listed, NamePair, None, Operand, Option, OrderKey, Query, Schema, Shape, Some, Star, TableRef, TableUse, [], bytes_eq, false, flat_map, length, map, true, ℕ}
 use Rattle.query_model.specs.Expressions.{Expr, Cond}
-use Rattle.query_model.specs.Refusals.{FromColumn, OperandTyping, typed, means, same_column, table_columns, from_columns, joins, listed, is_grouped, output_names, item_typing, cond_operands, operands_of, types_of}
+use Rattle.query_model.specs.Refusals.{FromColumn, OperandTyping, typed, means, same_column, table_columns, from_columns, joins, listed, is_grouped, output_names, item_typing, types_of}
+use Rattle.query_model.specs.Trees.{item_what}
 use Rattle.chunk_data.specs.declared.typed_value.ColumnType.TheVariants as column
 use Rattle.query_model.specs.declared.query.ExprOf.TheVariants as expr
 use Rattle.query_model.specs.declared.query.Operand.TheVariants as operand
@@ -46,6 +47,17 @@ abbrev pub IsPlacedOperand : (ColumnRef → ℕ) → Operand ColumnRef → Opera
 IsPlacedOperand place (operand.Plain a) (operand.Plain b) = IsPlaced place a b
 IsPlacedOperand place (operand.Text a) (operand.Text b) = a ≡ b
 IsPlacedOperand place _ _ = ⊥
+
+-- the operands of a condition's comparisons
+unfoldable pub cond_operands : {C : Type 0} → CondOf C → List (Operand C)
+cond_operands (condition.Compare op a b) = a ∷ b ∷ []
+cond_operands (condition.And' p a q b) = cond_operands a ++ cond_operands b
+cond_operands (condition.Or' p a q b) = cond_operands a ++ cond_operands b
+cond_operands (condition.Not' p a) = cond_operands a
+
+abbrev pub operands_of : Option (CondOf ColumnRef) → List (Operand ColumnRef)
+operands_of None = []
+operands_of (Some c) = cond_operands c
 
 abbrev pub calls_of : Operand ColumnRef → List (AggCall ColumnRef)
 calls_of (operand.Plain e) = []
@@ -154,7 +166,7 @@ known_type _ = column.Text
 abbrev pub output_types : Items → List FromColumn → List ColumnType
 output_types Star columns = types_of columns
 output_types (Listed items) columns =
-    map (λ (i : Item). known_type (item_typing columns i.what)) items
+    map (λ (i : Item). known_type (item_typing columns (item_what i.what))) items
 
 -- the checked query of a query that no condition refuses
 pub record IsChecked (q : Query) (schemas : List Schema) (c : Checked) : Type 0 where

@@ -1,17 +1,15 @@
 -- The value that a field of a CSV record spells, and what a value is written as.
 use Rattle.std.specs.Prelude.{if◌then◌else◌, ◌&&◌, ◌*◌, ◌+◌, ◌-◌, ◌==◌, ◌^◌, ◌∷◌}
-use Rattle.query_model.specs.Prelude.{Bool, ColumnType, Int, List, None, Option, Row, Some, Text, UInt, Value, [], false, fold, list_all, nat_le, nat_lt, neg_ℤ, option_map, pos, ℕ, ℤ}
+use Rattle.std.specs.Char.{is_ascii_digit}
+use Rattle.query_model.specs.Prelude.{Bool, ColumnType, Int, List, None, Option, Row, Some, Text, UInt, Value, [], false, fold, list_all, nat_lt, neg_ℤ, option_map, pos, ℕ, ℤ}
 use Rattle.chunk_data.specs.Values.{plain_type}
 use Rattle.chunk_data.specs.declared.typed_value.PlainType.{PlainType}
 use Rattle.chunk_data.specs.declared.typed_value.PlainType.TheVariants as plain
 
-abbrev pub is_digit : ℕ → Bool
-is_digit b = nat_le 48 b && nat_le b 57
-
 -- one or more digits, and the number that they spell
 abbrev pub is_numeral : List ℕ → Bool
 is_numeral [] = false
-is_numeral (b ∷ bytes) = list_all is_digit (b ∷ bytes)
+is_numeral (b ∷ bytes) = list_all is_ascii_digit (b ∷ bytes)
 
 abbrev pub numeral_value : List ℕ → ℕ
 numeral_value bytes = fold (λ n b. n * 10 + (b - 48)) 0 bytes

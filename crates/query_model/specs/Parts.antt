@@ -1,5 +1,5 @@
 -- The rows of a part, a file of comma-separated records, and its first bad place.
-use Rattle.std.specs.Prelude.{if◌then◌else◌, ◌+◌, ◌==◌, ◌∷◌, ◌≡◌}
+use Rattle.std.specs.Prelude.{if◌then◌else◌, ◌+◌, ◌==◌, ◌∷◌}
 use Rattle.query_model.specs.Prelude.{BadField, BadPlace, Bool, Column, ColumnType, Fields, List, None, Option, Row, Some, [], default_config, drop, flat_map, is_some, length, records, strip_bom, ℕ}
 use Rattle.query_model.specs.Fields.{spelled_value, spelled_row}
 
@@ -42,11 +42,3 @@ bad_place n types (record' ∷ more) =
 abbrev pub parts_rows : List ColumnType → Bool → List (List ℕ) → List Row
 parts_rows types header parts =
     flat_map (λ bytes. good_rows types (part_records header bytes)) parts
-
--- the first fields of a record spell these values of the first columns
-abbrev pub SpelledFront : List ColumnType → List (List ℕ) → Row → Type 0
-SpelledFront types fields [] = Unit {0}
-SpelledFront [] fields (v ∷ row) = ⊥
-SpelledFront (type ∷ types) [] (v ∷ row) = ⊥
-SpelledFront (type ∷ types) (field ∷ fields) (v ∷ row) = (spelled_value type field ≡ Some v)
-    × SpelledFront types fields row

@@ -1,15 +1,14 @@
 -- Why a query is refused: conditions over the whole query, of which the first in this order counts.
-use Rattle.std.specs.Prelude.{if◌then◌else◌, ◌&&◌, ◌++◌, ◌+◌, ◌==◌, ◌^◌, ◌||◌, ◌∷◌}
-use Rattle.query_model.specs.Prelude.{AggOp, ArithOp, Bool, ColumnDecl, ColumnRef, ColumnType, CondOf, Count, ExprOf, Item, ItemKind, Items, Join, List, Listed, NamePair, Named, None, Operand, Option, OrderKey, Query, Refusal, Schema, Some, Star, Sum, TableRef, [], bytes_eq, codes, decimal, false, filter, find, flat_map, is_some, length, list_all, list_any, map, nat_lt, negsuc, not, option_map, pos, true, ℕ, ℤ}
+use Rattle.std.specs.Prelude.{if◌then◌else◌, ◌&&◌, ◌++◌, ◌+◌, ◌==◌, ◌||◌, ◌∷◌}
+use Rattle.query_model.specs.Prelude.{AggOp, ArithOp, Bool, ColumnDecl, ColumnRef, ColumnType, Count, Item, Items, Join, List, Listed, NamePair, Named, None, Option, OrderKey, Query, Refusal, Schema, Some, Star, Sum, TableRef, [], bytes_eq, codes, decimal, false, filter, find, flat_map, is_some, length, list_all, list_any, map, nat_lt, not, option_map, true, ℕ, ℤ}
 use Rattle.query_model.specs.Expressions.{arith_type, number_of, result_type}
-use Rattle.chunk_data.specs.Values.{is_text, plain_type, same_type}
+use Rattle.query_model.specs.Typing.{can_hold}
+use Rattle.chunk_data.specs.Values.{is_text, same_type}
 use Rattle.chunk_data.specs.declared.typed_value.ColumnType.TheVariants as column
-use Rattle.chunk_data.specs.declared.typed_value.PlainType.{PlainType}
-use Rattle.chunk_data.specs.declared.typed_value.PlainType.TheVariants as plain'
-use Rattle.query_model.specs.declared.query.ExprOf.TheVariants as expr
-use Rattle.query_model.specs.declared.query.Operand.TheVariants as operand
-use Rattle.query_model.specs.declared.query.CondOf.TheVariants as condition
-use Rattle.query_model.specs.declared.query.ItemKind.TheVariants as kind
+use Rattle.query_model.specs.Formulas.{CondForm, Formula, OperandForm, sides_in}
+use Rattle.query_model.specs.Formulas as form
+use Rattle.query_model.specs.Trees.{ItemWhat, item_what, query_tree}
+use Rattle.query_model.specs.Trees as tree
 use Rattle.query_model.specs.declared.query.TableRef.TheVariants.{Numbers}
 use Rattle.query_model.specs.declared.query.Refusal.TheVariants as refuse
 
@@ -75,40 +74,29 @@ meant c columns = filter (means c) columns
 
 -- the columns that stand in the text, in its order
 
-unfoldable pub expr_columns : ExprOf ColumnRef → List ColumnRef
-expr_columns (expr.Column c) = c ∷ []
-expr_columns (expr.Number n) = []
-expr_columns (expr.Arith' op p a q b) = expr_columns a ++ expr_columns b
+unfoldable pub expr_columns : Formula ColumnRef → List ColumnRef
+expr_columns (form.column c) = c ∷ []
+expr_columns (form.number n) = []
+expr_columns (form.arith op a b) = expr_columns a ++ expr_columns b
 
-abbrev pub argument_columns : Option (ExprOf ColumnRef) → List ColumnRef
+abbrev pub argument_columns : Option (Formula ColumnRef) → List ColumnRef
 argument_columns None = []
 argument_columns (Some e) = expr_columns e
 
--- the operands of a condition's comparisons
-unfoldable pub cond_operands : {C : Type 0} → CondOf C → List (Operand C)
-cond_operands (condition.Compare op a b) = a ∷ b ∷ []
-cond_operands (condition.And' p a q b) = cond_operands a ++ cond_operands b
-cond_operands (condition.Or' p a q b) = cond_operands a ++ cond_operands b
-cond_operands (condition.Not' p a) = cond_operands a
-
-abbrev pub operands_of : Option (CondOf ColumnRef) → List (Operand ColumnRef)
-operands_of None = []
-operands_of (Some c) = cond_operands c
-
-abbrev pub operand_columns : Operand ColumnRef → List ColumnRef
-operand_columns (operand.Plain e) = expr_columns e
-operand_columns (operand.Text bytes) = []
-operand_columns (operand.Agg call) = argument_columns call.arg
+abbrev pub operand_columns : OperandForm ColumnRef → List ColumnRef
+operand_columns (form.plain e) = expr_columns e
+operand_columns (form.text bytes) = []
+operand_columns (form.call c) = argument_columns c.arg
 
 -- those outside an aggregate call
-abbrev pub bare_columns : Operand ColumnRef → List ColumnRef
-bare_columns (operand.Plain e) = expr_columns e
-bare_columns (operand.Text bytes) = []
-bare_columns (operand.Agg call) = []
+abbrev pub bare_columns : OperandForm ColumnRef → List ColumnRef
+bare_columns (form.plain e) = expr_columns e
+bare_columns (form.text bytes) = []
+bare_columns (form.call c) = []
 
-abbrev pub item_columns : ItemKind → List ColumnRef
-item_columns (kind.Plain e) = expr_columns e
-item_columns (kind.Agg call) = argument_columns call.arg
+abbrev pub item_columns : ItemWhat → List ColumnRef
+item_columns (tree.plain_item e) = expr_columns e
+item_columns (tree.call_item c) = argument_columns c.arg
 
 abbrev pub listed : Items → List Item
 listed Star = []
@@ -116,11 +104,11 @@ listed (Listed items) = items
 
 abbrev pub text_columns : Query → List ColumnRef
 text_columns q =
-    flat_map (λ (i : Item). item_columns i.what) (listed q.items)
+    flat_map (λ (i : Item). item_columns (item_what i.what)) (listed q.items)
     ++ flat_map (λ (p : NamePair). p.left ∷ p.right ∷ []) (join_pairs q.join)
-    ++ flat_map operand_columns (operands_of q.filter)
+    ++ flat_map operand_columns (sides_in (query_tree q).filter)
     ++ q.keys
-    ++ flat_map operand_columns (operands_of q.having)
+    ++ flat_map operand_columns (sides_in (query_tree q).having)
 
 -- a column as it is written
 abbrev pub written_behind : Option (List ℕ) → List ℕ → List ℕ
@@ -191,16 +179,6 @@ pub data OperandTyping : Type 0 where
   typed : ColumnType → OperandTyping
   unfit : OperandTyping
 
-abbrev pub plain_holds : PlainType → ℤ → Bool
-plain_holds plain'.Int64 (pos n) = nat_lt n (2 ^ 63)
-plain_holds plain'.Int64 (negsuc n) = nat_lt n (2 ^ 63)
-plain_holds plain'.UInt64 (pos n) = nat_lt n (2 ^ 64)
-plain_holds plain'.UInt64 (negsuc n) = false
-plain_holds plain'.Text z = false
-
-abbrev pub can_hold : ColumnType → ℤ → Bool
-can_hold t z = plain_holds (plain_type t) z
-
 abbrev pub arith_typing : ArithOp → OperandTyping → OperandTyping → OperandTyping
 arith_typing op (typed s) (typed t) = if same_type s t && not (is_text s)
     then typed (arith_type op s t) else unfit
@@ -212,10 +190,10 @@ abbrev pub known_typing : Option ColumnType → OperandTyping
 known_typing None = unfit
 known_typing (Some t) = typed t
 
-unfoldable pub expr_typing : List FromColumn → ExprOf ColumnRef → OperandTyping
-expr_typing columns (expr.Column c) = known_typing (meant_type columns c)
-expr_typing columns (expr.Number n) = plain (number_of n)
-expr_typing columns (expr.Arith' op p a q b) =
+unfoldable pub expr_typing : List FromColumn → Formula ColumnRef → OperandTyping
+expr_typing columns (form.column c) = known_typing (meant_type columns c)
+expr_typing columns (form.number n) = plain (number_of n)
+expr_typing columns (form.arith op a b) =
     arith_typing op (expr_typing columns a) (expr_typing columns b)
 
 -- the kind of a call over an argument of a kind
@@ -225,14 +203,14 @@ call_typing Count _ = typed column.UInt64
 call_typing op (typed t) = typed t
 call_typing op _ = unfit
 
-abbrev pub agg_typing : List FromColumn → AggOp → Option (ExprOf ColumnRef) → OperandTyping
+abbrev pub agg_typing : List FromColumn → AggOp → Option (Formula ColumnRef) → OperandTyping
 agg_typing columns op None = typed column.UInt64
 agg_typing columns op (Some e) = call_typing op (expr_typing columns e)
 
-abbrev pub operand_typing : List FromColumn → Operand ColumnRef → OperandTyping
-operand_typing columns (operand.Plain e) = expr_typing columns e
-operand_typing columns (operand.Text bytes) = typed column.Text
-operand_typing columns (operand.Agg call) = agg_typing columns call.op call.arg
+abbrev pub operand_typing : List FromColumn → OperandForm ColumnRef → OperandTyping
+operand_typing columns (form.plain e) = expr_typing columns e
+operand_typing columns (form.text bytes) = typed column.Text
+operand_typing columns (form.call c) = agg_typing columns c.op c.arg
 
 -- texts are compared with texts, and numbers with numbers
 abbrev pub comparable : OperandTyping → OperandTyping → Bool
@@ -247,14 +225,14 @@ comparable (plain z) (typed t) = not (is_text t)
 comparable (plain y) (plain z) = true
 comparable _ _ = false
 
-unfoldable pub cond_fits : List FromColumn → CondOf ColumnRef → Bool
-cond_fits columns (condition.Compare op a b) =
+unfoldable pub cond_fits : List FromColumn → CondForm (OperandForm ColumnRef) → Bool
+cond_fits columns (form.compare op a b) =
     comparable (operand_typing columns a) (operand_typing columns b)
-cond_fits columns (condition.And' p a q b) = cond_fits columns a && cond_fits columns b
-cond_fits columns (condition.Or' p a q b) = cond_fits columns a && cond_fits columns b
-cond_fits columns (condition.Not' p a) = cond_fits columns a
+cond_fits columns (form.both a b) = cond_fits columns a && cond_fits columns b
+cond_fits columns (form.either a b) = cond_fits columns a && cond_fits columns b
+cond_fits columns (form.negated a) = cond_fits columns a
 
-abbrev pub fits_where : List FromColumn → Option (CondOf ColumnRef) → Bool
+abbrev pub fits_where : List FromColumn → Option (CondForm (OperandForm ColumnRef)) → Bool
 fits_where columns None = true
 fits_where columns (Some c) = cond_fits columns c
 
@@ -262,39 +240,39 @@ abbrev pub is_typed : OperandTyping → Bool
 is_typed (typed t) = true
 is_typed _ = false
 
-abbrev pub item_typing : List FromColumn → ItemKind → OperandTyping
-item_typing columns (kind.Plain e) = expr_typing columns e
-item_typing columns (kind.Agg call) = agg_typing columns call.op call.arg
+abbrev pub item_typing : List FromColumn → ItemWhat → OperandTyping
+item_typing columns (tree.plain_item e) = expr_typing columns e
+item_typing columns (tree.call_item c) = agg_typing columns c.op c.arg
 
 abbrev pub types_fit : List FromColumn → Query → Bool
 types_fit columns q =
-    list_all (λ (i : Item). is_typed (item_typing columns i.what)) (listed q.items)
-    && fits_where columns q.filter && fits_where columns q.having
+    list_all (λ (i : Item). is_typed (item_typing columns (item_what i.what))) (listed q.items)
+    && fits_where columns (query_tree q).filter && fits_where columns (query_tree q).having
 
 abbrev pub type_mismatch : List FromColumn → Query → Option Refusal
 type_mismatch columns q = refusal_unless (types_fit columns q) refuse.TypeMismatch
 
 -- grouping
 
-abbrev pub is_call : ItemKind → Bool
-is_call (kind.Plain e) = false
-is_call (kind.Agg call) = true
+abbrev pub is_call : ItemWhat → Bool
+is_call (tree.plain_item e) = false
+is_call (tree.call_item c) = true
 
 -- a query is grouped where it has GROUP BY, HAVING or an aggregate call
 abbrev pub is_grouped : Query → Bool
 is_grouped q = not (length q.keys == 0) || is_some q.having
-    || list_any (λ (i : Item). is_call i.what) (listed q.items)
+    || list_any (λ (i : Item). is_call (item_what i.what)) (listed q.items)
 
 -- two names mean one column
 abbrev pub same_column : List FromColumn → ColumnRef → ColumnRef → Bool
 same_column columns a b = list_any (λ m. means a m && means b m) columns
 
 -- the columns of an item that must be keys: those outside a call, of which arithmetic never is one
-abbrev pub not_keys : (ColumnRef → Bool) → ItemKind → List ColumnRef
-not_keys is_key (kind.Plain (expr.Column c)) = if is_key c then [] else c ∷ []
-not_keys is_key (kind.Plain (expr.Number n)) = []
-not_keys is_key (kind.Plain (expr.Arith' op p a q b)) = expr_columns a ++ expr_columns b
-not_keys is_key (kind.Agg call) = []
+abbrev pub not_keys : (ColumnRef → Bool) → ItemWhat → List ColumnRef
+not_keys is_key (tree.plain_item (form.column c)) = if is_key c then [] else c ∷ []
+not_keys is_key (tree.plain_item (form.number n)) = []
+not_keys is_key (tree.plain_item (form.arith op a b)) = expr_columns a ++ expr_columns b
+not_keys is_key (tree.call_item c) = []
 
 abbrev pub star_name : Items → List (List ℕ)
 star_name Star = codes "*" ∷ []
@@ -306,17 +284,18 @@ is_key_of columns keys c = list_any (same_column columns c) keys
 -- the names in items that may not stand in a grouped query
 abbrev pub ungrouped_in_items : List FromColumn → List ColumnRef → List Item → List ColumnRef
 ungrouped_in_items columns keys items =
-    flat_map (λ (i : Item). not_keys (is_key_of columns keys) i.what) items
+    flat_map (λ (i : Item). not_keys (is_key_of columns keys) (item_what i.what)) items
 
 -- the names in HAVING outside of calls
-abbrev pub bare_names : Option (CondOf ColumnRef) → List ColumnRef
-bare_names having = flat_map bare_columns (operands_of having)
+abbrev pub bare_names : Option (CondForm (OperandForm ColumnRef)) → List ColumnRef
+bare_names having = flat_map bare_columns (sides_in having)
 
 -- what may not stand in a grouped query, in the order of the text
 abbrev pub ungrouped_names : List FromColumn → Query → List (List ℕ)
 ungrouped_names columns q =
     star_name q.items ++ map written (ungrouped_in_items columns q.keys (listed q.items))
-    ++ map written (filter (λ c. not (is_key_of columns q.keys c)) (bare_names q.having))
+    ++ map written
+    (filter (λ c. not (is_key_of columns q.keys c)) (bare_names (query_tree q).having))
 
 abbrev pub first_name : List (List ℕ) → Option (List ℕ)
 first_name [] = None
@@ -329,11 +308,11 @@ not_grouped columns q =
 
 -- output names and order
 
-abbrev pub plain_name : ItemKind → ℕ → List ℕ
-plain_name (kind.Plain (expr.Column c)) k = c.name
-plain_name (kind.Plain (expr.Number n)) k = codes "item_" ++ decimal k
-plain_name (kind.Plain (expr.Arith' op p a q b)) k = codes "item_" ++ decimal k
-plain_name (kind.Agg call) k = codes "item_" ++ decimal k
+abbrev pub plain_name : ItemWhat → ℕ → List ℕ
+plain_name (tree.plain_item (form.column c)) k = c.name
+plain_name (tree.plain_item (form.number n)) k = codes "item_" ++ decimal k
+plain_name (tree.plain_item (form.arith op a b)) k = codes "item_" ++ decimal k
+plain_name (tree.call_item c) k = codes "item_" ++ decimal k
 
 abbrev pub name_or : Option (List ℕ) → List ℕ → List ℕ
 name_or None name = name
@@ -342,7 +321,8 @@ name_or (Some alias) name = alias
 -- the names of items of which the first has place k
 abbrev pub item_names : ℕ → List Item → List (List ℕ)
 item_names k [] = []
-item_names k (i ∷ items) = name_or i.alias (plain_name i.what k) ∷ item_names (k + 1) items
+item_names k (i ∷ items) =
+    name_or i.alias (plain_name (item_what i.what) k) ∷ item_names (k + 1) items
 
 abbrev pub output_names : Items → List FromColumn → List (List ℕ)
 output_names Star columns = map (λ (c : FromColumn). c.name) columns
@@ -356,18 +336,18 @@ bad_order_key names order =
 
 -- widths
 
-abbrev pub operand_calls : Operand ColumnRef → ℕ
-operand_calls (operand.Plain e) = 0
-operand_calls (operand.Text bytes) = 0
-operand_calls (operand.Agg call) = 1
+abbrev pub operand_calls : OperandForm ColumnRef → ℕ
+operand_calls (form.plain e) = 0
+operand_calls (form.text bytes) = 0
+operand_calls (form.call c) = 1
 
 abbrev pub total : List ℕ → ℕ
 total [] = 0
 total (n ∷ ns) = n + total ns
 
 abbrev pub calls_in : Query → ℕ
-calls_in q = length (filter (λ (i : Item). is_call i.what) (listed q.items))
-    + total (map operand_calls (operands_of q.having))
+calls_in q = length (filter (λ (i : Item). is_call (item_what i.what)) (listed q.items))
+    + total (map operand_calls (sides_in (query_tree q).having))
 
 -- what may not be more than 64
 abbrev pub widths : List FromColumn → Query → List ℕ

@@ -1,6 +1,6 @@
 -- Which expressions and conditions may be evaluated over columns of given types.
 use Rattle.std.specs.Prelude.{◌++◌, ◌<◌, ◌^◌, ◌≡◌}
-use Rattle.query_model.specs.Prelude.{AggCall, AggOp, ColumnType, Count, Grouping, List, Max, Min, None, Operand, Option, Some, Sum, false, length, map, negsuc, pos, ℕ, ℤ}
+use Rattle.query_model.specs.Prelude.{AggCall, AggOp, Bool, ColumnType, Count, Grouping, List, Max, Min, None, Operand, Option, Some, Sum, false, length, map, nat_lt, negsuc, pos, true, ℕ, ℤ}
 use Rattle.chunk_data.specs.Values.{is_text, plain_type, type_at}
 use Rattle.chunk_data.specs.declared.typed_value.ColumnType.TheVariants as column
 use Rattle.chunk_data.specs.declared.typed_value.PlainType.{PlainType}
@@ -17,16 +17,19 @@ plain_of (expr.Column c) = None
 plain_of (expr.Number n) = Some (number_of n)
 plain_of (expr.Arith' op p a q b) = None
 
-abbrev pub PlainHolds : PlainType → ℤ → Type 0
-PlainHolds plain.Int64 (pos n) = n < 2 ^ 63
-PlainHolds plain.Int64 (negsuc n) = n < 2 ^ 63
-PlainHolds plain.UInt64 (pos n) = n < 2 ^ 64
-PlainHolds plain.UInt64 (negsuc n) = ⊥
-PlainHolds plain.Text z = ⊥
+abbrev pub plain_holds : PlainType → ℤ → Bool
+plain_holds plain.Int64 (pos n) = nat_lt n (2 ^ 63)
+plain_holds plain.Int64 (negsuc n) = nat_lt n (2 ^ 63)
+plain_holds plain.UInt64 (pos n) = nat_lt n (2 ^ 64)
+plain_holds plain.UInt64 (negsuc n) = false
+plain_holds plain.Text z = false
 
--- the type has the number
+-- whether the type has the number
+abbrev pub can_hold : ColumnType → ℤ → Bool
+can_hold t z = plain_holds (plain_type t) z
+
 abbrev pub CanHold : ColumnType → ℤ → Type 0
-CanHold t z = PlainHolds (plain_type t) z
+CanHold t z = can_hold t z ≡ true
 
 -- two columns of numbers of one type
 abbrev pub AreNumbersAlike : ColumnType → ColumnType → Type 0

@@ -1,6 +1,6 @@
 // Numbers as fields spell them.
 ghost use Rattle.std.specs.Prelude.{◌≡◌, ◌≤◌, ◌^◌, pos, neg_ℤ};
-ghost use Rattle.query_model.specs.Names.{numeral_below, spelled_int as int_spelled, with_digit};
+ghost use Rattle.query_model.specs.Names.{numeral_below, spelled_int as int_spelled, with_digit, with_digits};
 
 /// The most numbers to which any digit can be added, below 2^64.
 const ROOMY: u64 = 1_844_674_407_370_955_161;
@@ -21,6 +21,20 @@ fn add_digit(number: u64, b: u8) -> Option<u64>
     }
 }
 
+/// The number that digits spell, 0 where there are none, if it is a UInt64.
+pub fn digits_value(digits: &[u8]) -> Option<u64>
+    ensures { result ≡ with_digits 0 digits.now }
+{
+    let mut number = 0;
+    for b in digits {
+        match add_digit(number, *b) {
+            Some(more) => number = more,
+            None => return None,
+        }
+    }
+    Some(number)
+}
+
 /// The UInt64 that the field spells: one or more digits, with any number of zeros in front.
 pub fn spelled_uint(field: &[u8]) -> Option<u64>
     ensures { result ≡ numeral_below (2 ^ 64) field.now }
@@ -28,14 +42,7 @@ pub fn spelled_uint(field: &[u8]) -> Option<u64>
     if field.is_empty() {
         return None;
     }
-    let mut number = 0;
-    for b in field {
-        match add_digit(number, *b) {
-            Some(more) => number = more,
-            None => return None,
-        }
-    }
-    Some(number)
+    digits_value(field)
 }
 
 /// The same below a limit.

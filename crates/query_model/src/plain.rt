@@ -1,13 +1,10 @@
 // Plain, slow functions of the definitions.
-ghost use Rattle.std.specs.Prelude.{is_some, OnOk, ◌-◌, ◌^◌, ◌++◌};
-ghost use Rattle.query_model.specs.Names.{spelled_value, spelled_row, bad_column, bad_field as bad_field_of, quoted, doubled, separator, value_text as text_of_value, row_text as text_of_row, rows_text as text_of_rows, formula, type_of, arith_type as type_of_result, gives_uint};
-ghost use Rattle.std.specs.Prelude.{◌≡◌, IfOk, length, ◌<◌};
+ghost use Rattle.std.specs.Prelude.{◌≡◌, OnOk, IfOk, ◌++◌};
+ghost use Rattle.query_model.specs.Names.{quoted, doubled, separator, value_text as text_of_value, row_text as text_of_row, formula, type_of, arith_type as type_of_result, gives_uint, can_hold as holds_number, number_of, number_value};
 
 use crate::checked::{Cond, Expr};
-use crate::numerals::{spelled_int, spelled_uint};
-use crate::places::BadField;
-use crate::query::{ArithOp, ExprOf};
-use chunk_data::{Bytes, ColumnType, List, Memory, PlainType, Value, type_at};
+use crate::query::{ArithOp, ExprOf, Number};
+use chunk_data::{ColumnType, Memory, PlainType, Value, type_at};
 use std::alloc::{AllocError, Global};
 
 /// The same expression in boxes of its own.
@@ -83,79 +80,28 @@ pub fn expr_type(e: &Expr, types: &[ColumnType]) -> ColumnType
     }
 }
 
-/// The value that a field spells, if it spells one.
-pub fn value_spelled(alloc: Global, kind: ColumnType, field: &[u8]) -> Result<Option<Value>, Memory>
-    ensures { IfOk result (λ v. v ≡ spelled_value kind field.now) }
+/// Whether a number is a UInt64. Its size is an argument of its own, since a clause knows the range
+/// of such a one.
+fn is_uint(negative: bool, size: u64) -> bool
+    ensures { result ≡ holds_number ColumnType.UInt64 (number_value negative size) }
+{
+    !negative || size == 0
+}
+
+/// Whether a type has a number.
+pub fn can_hold(kind: ColumnType, n: Number) -> bool
+    ensures { result ≡ holds_number kind (number_of n) }
 {
     match kind.plain() {
-        PlainType::Int64 => match spelled_int(field) {
-            Some(number) => Ok(Some(Value::Int(number))),
-            None => Ok(None),
-        },
-        PlainType::UInt64 => match spelled_uint(field) {
-            Some(number) => Ok(Some(Value::UInt(number))),
-            None => Ok(None),
-        },
-        PlainType::Text => Ok(Some(Value::Text(Bytes::from_slice(alloc, field)?))),
-    }
-}
-
-/// Whether a field spells a value.
-pub fn spells(kind: ColumnType, field: &[u8]) -> bool
-    ensures { result ≡ is_some (spelled_value kind field.now) }
-{
-    match kind.plain() {
-        PlainType::Int64 => spelled_int(field).is_some(),
-        PlainType::UInt64 => spelled_uint(field).is_some(),
-        PlainType::Text => true,
-    }
-}
-
-/// The row that a record spells, if it spells one.
-pub fn row_spelled(
-    alloc: Global,
-    types: &[ColumnType],
-    fields: &[Bytes],
-) -> Result<Option<List<Value>>, Memory>
-    ensures { IfOk result (λ row. row ≡ spelled_row types.now fields.now) }
-{
-    if types.len() != fields.len() {
-        return Ok(None);
-    }
-    let mut row = Vec::new(alloc);
-    for i in 0..types.len() {
-        match value_spelled(alloc, types[i], fields[i].as_slice())? {
-            Some(value) => row.push(value)?,
-            None => return Ok(None),
+        PlainType::Int64 => {
+            if n.negative {
+                n.size <= 1 << 63
+            } else {
+                n.size < 1 << 63
+            }
         }
-    }
-    Ok(Some(List::from_vec(row)))
-}
-
-/// The first column, counted from 1, whose field spells no value, or the number behind the last
-/// column's.
-fn first_bad_column(types: &[ColumnType], fields: &[Bytes]) -> u32
-    requires few { length types.now < 2 ^ 32 - 1 }
-    requires long { length fields.now ≡ length types.now }
-    ensures { result ≡ bad_column 1 types.now fields.now }
-{
-    for i in 0..types.len() {
-        if !spells(types[i], fields[i].as_slice()) {
-            return i as u32 + 1;
-        }
-    }
-    types.len() as u32 + 1
-}
-
-/// What is wrong with a record that spells no row.
-pub fn bad_field(types: &[ColumnType], fields: &[Bytes]) -> BadField
-    requires { length types.now < 2 ^ 32 - 1 }
-    ensures { result ≡ bad_field_of types.now fields.now }
-{
-    if types.len() == fields.len() {
-        BadField::Column(first_bad_column(types, fields))
-    } else {
-        BadField::Fields(fields.len() as u64)
+        PlainType::UInt64 => is_uint(n.negative, n.size),
+        PlainType::Text => false,
     }
 }
 
@@ -215,17 +161,5 @@ pub fn row_text(alloc: Global, row: &[Value]) -> Result<Vec<u8>, Memory>
         text.extend_from_slice(&more)?;
     }
     text.push(10)?;
-    Ok(text)
-}
-
-/// The text of rows.
-pub fn rows_text(alloc: Global, rows: &[List<Value>]) -> Result<Vec<u8>, Memory>
-    ensures { IfOk result (λ text. text.items ≡ text_of_rows rows.now) }
-{
-    let mut text = Vec::new(alloc);
-    for row in rows {
-        let more = row_text(alloc, row.as_slice())?;
-        text.extend_from_slice(&more)?;
-    }
     Ok(text)
 }

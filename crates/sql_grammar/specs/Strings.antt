@@ -1,8 +1,8 @@
 -- How a string is written behind its first quote, with its last one: each byte stands for itself,
 -- but a quote is written as two quotes or behind a backslash, and a backslash behind a backslash.
-use Rattle.std.specs.Prelude.{◌≡◌, ◌≢◌, ℕ, ◌≤◌, false, List, [], ◌∷◌, length, take, drop, Some}
+use Rattle.std.specs.Prelude.{◌≡◌, ◌≢◌, ℕ, ◌≤◌, ◌==◌, Bool, false, List, [], ◌∷◌, length, take, drop, Some}
 use Rattle.sql_grammar.specs.declared.TextPlace.TheVariants as place
-use Rattle.sql_grammar.specs.Tokens.{begins_with, text_at}
+use Rattle.sql_grammar.specs.Tokens.{text_at}
 
 -- the content, and the bytes that it is written in
 pub data IsQuoted : List ℕ → List ℕ → Type 0 where
@@ -15,6 +15,10 @@ pub data IsQuoted : List ℕ → List ℕ → Type 0 where
       → IsQuoted content bytes → IsQuoted (39 ∷ content) (92 ∷ 39 ∷ bytes)
   two_backslashes : {content bytes : List ℕ}
       → IsQuoted content bytes → IsQuoted (92 ∷ content) (92 ∷ 92 ∷ bytes)
+
+abbrev pub begins_with : ℕ → List ℕ → Bool
+begins_with c [] = false
+begins_with c (b ∷ bs) = b == c
 
 -- The n bytes at the front are a string's, and the longest that are: no quote follows, which would
 -- go on with it.

@@ -145,39 +145,34 @@ text_at p (b ∷ bs) = text_on (text_byte p b) b (λ next. text_at next bs)
 
 -- ---- signs
 
-abbrev pub begins_with : ℕ → List ℕ → Bool
-begins_with c [] = false
-begins_with c (b ∷ bs) = b == c
-
 -- the sign of one byte
 abbrev pub single_sign : ℕ → Option Sign
 single_sign b =
     if b == 40 then Some sign.Open else if b == 41 then Some sign.Close
     else if b == 44 then Some sign.Comma else if b == 46 then Some sign.Dot
     else if b == 59 then Some sign.Semicolon else if b == 42 then Some sign.Star
-    else if b == 43 then Some sign.Plus else if b == 45 then Some sign.Minus else None
+    else if b == 43 then Some sign.Plus else if b == 45 then Some sign.Minus
+    else if b == 61 then Some sign.Equal else if b == 60 then Some sign.Less
+    else if b == 62 then Some sign.Greater else None
 
--- the sign that begins with `<`, and how many bytes it takes
-abbrev pub less_sign : List ℕ → Sign × ℕ
-less_sign bs = if begins_with 62 bs then (sign.NotEqual, 2) else if begins_with 61 bs
-    then (sign.LessEqual, 2) else (sign.Less, 1)
+-- the sign of two bytes
+abbrev pub double_sign : ℕ → ℕ → Option Sign
+double_sign b c =
+    if (b == 60) && (c == 62) then Some sign.NotEqual else if not (c == 61) then None
+    else if b == 61 then Some sign.Equal else if b == 33 then Some sign.NotEqual
+    else if b == 60 then Some sign.LessEqual else if b == 62 then Some sign.GreaterEqual else None
 
--- the sign of a comparison that begins with the byte, and how many bytes it takes
-abbrev pub comparison_sign : ℕ → List ℕ → Option (Sign × ℕ)
-comparison_sign b bs =
-    if b == 61 then Some (sign.Equal, if begins_with 61 bs then 2 else 1)
-    else if b == 33 then (if begins_with 61 bs then Some (sign.NotEqual, 2) else None)
-    else if b == 60 then Some (less_sign bs)
-    else if b == 62 then (if begins_with 61 bs then Some (sign.GreaterEqual, 2)
-    else Some (sign.Greater, 1)) else None
+-- the longer sign, and how many bytes it takes
+abbrev pub sign_or : Option Sign → Option Sign → Option (Sign × ℕ)
+sign_or (Some s) shorter = Some (s, 2)
+sign_or None shorter = option_map (λ s. (s, 1)) shorter
 
-abbrev pub sign_or : Option Sign → Option (Sign × ℕ) → Option (Sign × ℕ)
-sign_or (Some s) other = Some (s, 1)
-sign_or None other = other
+abbrev pub longest_sign : ℕ → List ℕ → Option (Sign × ℕ)
+longest_sign b [] = sign_or None (single_sign b)
+longest_sign b (c ∷ bs) = sign_or (double_sign b c) (single_sign b)
 
 abbrev pub sign_front : ℕ → List ℕ → Option (Token × ℕ)
-sign_front b bs =
-    option_map (λ r. (token.Sign r.0, r.1)) (sign_or (single_sign b) (comparison_sign b bs))
+sign_front b bs = option_map (λ r. (token.Sign r.0, r.1)) (longest_sign b bs)
 
 -- ---- texts
 

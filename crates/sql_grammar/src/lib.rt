@@ -3,7 +3,7 @@
 #![tactic(auto)]
 
 ghost use Rattle.std.specs.Prelude.{◌≡◌, Some};
-ghost use Rattle.sql_grammar.specs.Names.{StringsAreRead, StringsAreWritten, keyword_of, keyword_text};
+ghost use Rattle.sql_grammar.specs.Names.{StringsAreRead, StringsAreWritten, TokensAreLongest, keyword_of, keyword_text};
 
 mod words;
 
@@ -79,6 +79,11 @@ pub fn keywords_are_read()
 pub fn strings_are_read()
     ensures read { StringsAreRead }
     ensures written { StringsAreWritten }
+{}
+
+/// Each token that is read is the longest of its kind at the front.
+pub fn tokens_are_longest()
+    ensures { TokensAreLongest }
 {}
 
 /// A sign. `=` and `==` are one sign, and so are `!=` and `<>`.

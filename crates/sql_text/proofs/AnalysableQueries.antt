@@ -1,7 +1,7 @@
 -- What analysis asks of a query holds of each query that is read: WHERE has no call, HAVING has the
 -- operands of groups, and each call has its argument.
 use Rattle.sql_text.proofs.Imports.{◌≡◌, List, [], ◌∷◌, map, flat_map, Option, None, Some, option_map, is_some, All, All-nil, All-cons, All-head, All-tail, All-append, All-weaker, operands_of, item_calls, calls_of, IsNoCall, HasItsArgument, IsAnalysable, AggCall, ColumnRef, CondOf, ExprOf, Operand, Item, Items, Query, CallTree, QueryOperand, Condition, ItemTree, ItemWhat, Selection, QueryTree, item_tree, Tokens, IsAgg, IsOperand, IsGroupOperand as IsGroupSide, IsCond, one_conj, disjunction, IsConj, one_neg, conjunction, IsNeg, negation, enclosed_cond, comparison, AreListed, last_one, one_more, IsSelectItem, IsSelection, all_columns, some_items, IsFilter, IsHaving, no_clause, clause_of, source_of, shaping_of, IsQuery, select_query, IsText, bare, with_semicolon, IsReadFrom, ℕ, ◌∙◌, arith}
-use Rattle.query_model.specs.Formulas.{argument_form, call, call_form, column, cond_form, number, operand_form, plain, sides_of, text}
+use Rattle.query_model.specs.Formulas.{argument_form, call, call_form, column, cond_form, number, operand_form, plain, sides_in, sides_of, text}
 use Rattle.query_model.specs.Formulas.{arith as calculated}
 use Rattle.query_model.specs.Names.{cond_operands, listed, takes_argument, MayBeGroupOperand}
 use Rattle.query_model.specs.Trees.{call_item, listed as listed_items, plain_item, selection, star}
@@ -74,10 +74,6 @@ items_arguments (one_more i is) = All-cons IsItemTree _ _ (item_argument i) (ite
 abbrev items_in : Selection → List ItemTree
 items_in star = []
 items_in (listed_items is) = is
-
-abbrev sides_in : Option Condition → List QueryOperand
-sides_in None = []
-sides_in (Some c) = sides_of c
 
 record IsAnalysableTree (t : QueryTree) : Type 0 where
   items : All IsItemTree (items_in t.items)

@@ -1,6 +1,6 @@
 -- One turn of the scanner.
 use Rattle.std.proofs.lemmas.Grind.{common_steps}
-use Rattle.sql_text.proofs.Imports.{◌≡◌, ℕ, suc, ◌+◌, ◌-◌, ◌<◌, ◌≤◌, true, false, List, [], ◌∷◌, ◌++◌, length, drop, get_or, Option, Some, option_map, refl, append_assoc, add-one, arith, drop-cons, append-nil, is_blank, text_byte, text_on, text_end, text_at, token_front, behind_token, tokens_behind, Token, TextPlace, TextByte, drop_all}
+use Rattle.sql_text.proofs.Imports.{◌≡◌, ℕ, suc, ◌+◌, ◌-◌, ◌<◌, ◌≤◌, true, false, List, [], ◌∷◌, ◌++◌, length, drop, get_or, Option, Some, option_map, refl, append_assoc, add-one, arith, drop-cons, append-nil, is_blank, text_byte, text_on, text_end, text_at, token_front, behind_token, tokens_behind, Token, TextPlace, TextByte, drop_all, fitting, is_ascii_digit, list_all, numeral_value, take_while, with_digits, with_digits-is, ◌∙◌, take, take_while-longest, take-take_while}
 
 -- ---- strings
 
@@ -37,6 +37,17 @@ pub text_ends : (whole : Option (List ℕ × ℕ)) (bytes front : List ℕ) (i :
     → whole ≡ text_behind front (length bytes) (text_end q)
 unfolding text_at
 text_ends whole bytes front i p q at last is = grind (arith, drop_all)
+
+-- ---- numbers
+
+pub number_is : (bytes : List ℕ) (n : ℕ) → n ≡ length (take_while is_ascii_digit bytes)
+    → with_digits 0 (take n bytes) ≡ fitting (numeral_value (take_while is_ascii_digit bytes))
+number_is bytes n e =
+    let front = take_while is_ascii_digit bytes in
+    let all : list_all is_ascii_digit front ≡ true =
+    rw (take-take_while is_ascii_digit bytes) at (take_while-longest is_ascii_digit bytes).is_one in
+    rw (e, take-take_while is_ascii_digit bytes)
+    (with_digits-is front 0 (omega arith) ∙ rw all refl)
 
 -- ---- one token after another
 

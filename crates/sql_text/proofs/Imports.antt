@@ -1,5 +1,7 @@
 -- The names from outside that this crate's proofs use, in one place.
+pub use Rattle.query_model.proofs.NumeralLaws.{with_digits-is}
 pub use Rattle.query_model.specs.Fields.{numeral_value}
+pub use Rattle.sql_grammar.proofs.Longest.{take-take_while, take_while-longest}
 pub use Rattle.query_model.specs.Formulas.{column, number}
 pub use Rattle.query_model.specs.Names.{HasItsArgument, IsAnalysable, IsNoCall, calls_of, formula, item_calls, operands_of, takes_argument}
 pub use Rattle.query_model.specs.declared.query.AggCall.{AggCall}
@@ -42,9 +44,11 @@ pub use Rattle.std.proofs.lemmas.List.{append-nil, drop_all}
 pub use Rattle.std.proofs.lemmas.List.Elements.{All-append, All-cons, All-head, All-nil, All-tail, All-weaker}
 pub use Rattle.std.proofs.lemmas.Option.{IfSome_then, none-some, same_Some}
 pub use Rattle.std.proofs.lemmas.Slice.Eq.{bytes_eq-Decides}
-pub use Rattle.std.specs.List.{All}
+pub use Rattle.std.specs.Char.{is_ascii_digit}
+pub use Rattle.std.specs.List.{All, list_all, take_while}
 pub use Rattle.std.specs.Prelude.{codes, is_some, nat_lt}
 pub use Rattle.std.specs.Str.{bytes_eq}
+unfoldable pub use Rattle.query_model.specs.Names.{with_digits}
 unfoldable pub use Rattle.sql_grammar.specs.Tokens.{text_at, tokens_behind}
 unfoldable pub use Rattle.sql_text.specs.Terms.{joined, term_at}
 unfoldable pub use Rattle.sql_text.specs.Queries.{list_at}

@@ -2,12 +2,13 @@
 ghost use Rattle.std.specs.Prelude.{◌≡◌, ℕ, suc, ◌+◌, ◌-◌, ◌*◌, ◌<◌, ◌≤◌, ◌∷◌, length, drop, take_while, [], MatchOption, Some, option_map, IfOk, OnOk};
 ghost use Rattle.std.specs.Char.{is_ascii_digit};
 ghost use Rattle.query_model.specs.Fields.{numeral_value};
-ghost use Rattle.sql_grammar.specs.Tokens.{is_blank, is_word_byte, keyword_of, word_token, word_front, fitting, number_token, begins_with_letter, number_front, text_byte, text_end, text_at, begins_with, single_sign, less_sign, comparison_sign, text_front, sign_front, token_front, tokens_behind, tokens_of};
+ghost use Rattle.sql_grammar.specs.Tokens.{is_blank, is_word_byte, keyword_of, word_token, word_front, fitting, number_token, begins_with_letter, number_front, text_byte, text_end, text_at, double_sign, longest_sign, single_sign, text_front, sign_front, token_front, tokens_behind, tokens_of};
 ghost use Rattle.sql_grammar.specs.declared.TextPlace.TheVariants.{Middle};
 ghost use Rattle.sql_text.specs.Answers.{ParseGives};
 
 use crate::parse_error::ParseError;
 use chunk_data::Bytes;
+use query_model::numerals::digits_value;
 use sql_grammar::{
     Sign, TextByte, TextPlace, Token, begins_with_letter, is_letter, is_word_byte, keyword_of,
 };
@@ -48,47 +49,22 @@ fn digits_len(bytes: &[u8]) -> usize
     bytes.iter().take_while(|b| b.is_ascii_digit()).count()
 }
 
-fn digits_at(bytes: &[u8]) -> &[u8]
-    ensures { result.now ≡ take_while is_ascii_digit bytes.now }
+// The number of the digits at the front, and how many they are.
+fn number_at(bytes: &[u8]) -> (Option<u64>, usize)
+    ensures number { result.0 ≡ fitting (numeral_value (take_while is_ascii_digit bytes.now)) }
+    ensures len { result.1 ≡ length (take_while is_ascii_digit bytes.now) }
+    ensures within { result.1 ≤ length bytes.now }
 {
-    &bytes[..digits_len(bytes)]
+    let len = digits_len(bytes);
+    (digits_value(&bytes[..len]), len)
 }
 
-// The number with one more digit, where both fit.
-fn with_digit(number: Option<u64>, digit: u8) -> Option<u64>
-    ensures { (n : ℕ) → number ≡ fitting n → result ≡ fitting (n * 10 + (digit - 48)) }
+fn number_token(number: Option<u64>) -> Token
+    ensures { result ≡ number_token number }
 {
-    let number = number?;
-    number
-        .checked_mul(10)?
-        .checked_add(u64::from(digit.saturating_sub(b'0')))
-}
-
-fn parse_digits(digits: &[u8]) -> Option<u64>
-    ensures { result ≡ fitting (numeral_value digits.now) }
-{
-    let mut number = Some(0);
-    for digit in digits {
-        number = with_digit(number, *digit);
-    }
-    number
-}
-
-fn number_token(digits: &[u8]) -> Token
-    ensures { result ≡ number_token (fitting (numeral_value digits.now)) }
-{
-    match parse_digits(digits) {
+    match number {
         Some(number) => Token::Number(number),
         None => Token::LargeNumber,
-    }
-}
-
-fn begins_with(byte: u8, bytes: &[u8]) -> bool
-    ensures { result ≡ begins_with byte bytes.now }
-{
-    match bytes.first() {
-        Some(b) => *b == byte,
-        None => false,
     }
 }
 
@@ -149,34 +125,34 @@ fn single_sign(b: u8) -> Option<Sign>
         b'*' => Some(Sign::Star),
         b'+' => Some(Sign::Plus),
         b'-' => Some(Sign::Minus),
+        b'=' => Some(Sign::Equal),
+        b'<' => Some(Sign::Less),
+        b'>' => Some(Sign::Greater),
         _ => None,
     }
 }
 
-fn less_sign(more: &[u8]) -> (Sign, usize)
-    ensures { result ≡ less_sign more.now }
+fn double_sign(b: u8, c: u8) -> Option<Sign>
+    ensures { result ≡ double_sign b c }
 {
-    if begins_with(b'>', more) {
-        (Sign::NotEqual, 2)
-    } else if begins_with(b'=', more) {
-        (Sign::LessEqual, 2)
-    } else {
-        (Sign::Less, 1)
+    match (b, c) {
+        (b'<', b'>') | (b'!', b'=') => Some(Sign::NotEqual),
+        (b'=', b'=') => Some(Sign::Equal),
+        (b'<', b'=') => Some(Sign::LessEqual),
+        (b'>', b'=') => Some(Sign::GreaterEqual),
+        _ => None,
     }
 }
 
-fn comparison_sign(b: u8, more: &[u8]) -> Option<(Sign, usize)>
-    ensures { result ≡ comparison_sign b more.now }
+fn longest_sign(b: u8, more: &[u8]) -> Option<(Sign, usize)>
+    ensures { result ≡ longest_sign b more.now }
 {
-    let equal = begins_with(b'=', more);
-    match b {
-        b'=' => Some((Sign::Equal, if equal { 2 } else { 1 })),
-        b'!' if equal => Some((Sign::NotEqual, 2)),
-        b'<' => Some(less_sign(more)),
-        b'>' if equal => Some((Sign::GreaterEqual, 2)),
-        b'>' => Some((Sign::Greater, 1)),
-        _ => None,
+    if let Some(c) = more.first() {
+        if let Some(sign) = double_sign(b, *c) {
+            return Some((sign, 2));
+        }
     }
+    Some((single_sign(b)?, 1))
 }
 
 fn word_front(alloc: Global, bytes: &[u8]) -> Result<(Token, usize), ParseError>
@@ -189,11 +165,11 @@ fn word_front(alloc: Global, bytes: &[u8]) -> Result<(Token, usize), ParseError>
 fn number_front(bytes: &[u8]) -> Result<(Token, usize), ParseError>
     ensures { ParseGives (λ p. p) result (number_front bytes.now) }
 {
-    let digits = digits_at(bytes);
-    if begins_with_letter(&bytes[digits.len()..]) {
+    let (number, len) = number_at(bytes);
+    if begins_with_letter(&bytes[len..]) {
         return Err(ParseError::Syntax);
     }
-    Ok((number_token(digits), digits.len()))
+    Ok((number_token(number), len))
 }
 
 fn text_front(alloc: Global, bytes: &[u8]) -> Result<(Token, usize), ParseError>
@@ -206,10 +182,7 @@ fn text_front(alloc: Global, bytes: &[u8]) -> Result<(Token, usize), ParseError>
 fn sign_front(b: u8, more: &[u8]) -> Result<(Token, usize), ParseError>
     ensures { ParseGives (λ p. p) result (sign_front b more.now) }
 {
-    if let Some(sign) = single_sign(b) {
-        return Ok((Token::Sign(sign), 1));
-    }
-    match comparison_sign(b, more) {
+    match longest_sign(b, more) {
         Some((sign, len)) => Ok((Token::Sign(sign), len)),
         None => Err(ParseError::Syntax),
     }

@@ -1,7 +1,7 @@
 // Grouping: what may not stand in a grouped query, and the checked grouping of one that may.
 ghost use Rattle.std.specs.Prelude.{◌≡◌, ◌+◌, ◌++◌, ◌≤◌, cond, filter, find, flat_map, length, map, not, option_map, IfOk, OnOk};
 ghost use Rattle.std.specs.List.{All, list_any};
-ghost use Rattle.query_model.specs.Names.{written as written_name, first_name, is_grouped as has_groups, listed, not_keys, IsPick, ArePicks, IsGrouping, item_calls, bare_names, ungrouped_in_items as items_ungrouped, is_call_item, AreAdded, CanBePicked, is_key_of, key_place, first_ungrouped, not_grouped as holds_ungrouped};
+ghost use Rattle.query_model.specs.Names.{written as written_name, first_name, is_grouped as has_groups, listed, not_keys, item_what, cond_form, IsPick, ArePicks, IsGrouping, item_calls, bare_names, ungrouped_in_items as items_ungrouped, is_call_item, AreAdded, CanBePicked, is_key_of, key_place, first_ungrouped, not_grouped as holds_ungrouped};
 
 use crate::analysis::columns::FromColumn;
 use crate::analysis::names::{
@@ -71,7 +71,7 @@ fn push_item_ungrouped(
     names: &mut Vec<ColumnRef>,
 ) -> Result<(), Memory>
     ensures { OnOk result (names.new.items
-        ≡ names.old.items ++ not_keys (is_key_of columns.now keys.now) item.now.what) }
+        ≡ names.old.items ++ not_keys (is_key_of columns.now keys.now) (item_what item.now.what)) }
 {
     match &item.what {
         ItemKind::Plain(ExprOf::Column(c)) => {
@@ -151,7 +151,8 @@ fn ungrouped_in_having(
     keys: &[ColumnRef],
 ) -> Result<Option<Bytes>, Memory>
     ensures { IfOk result (λ name. name ≡ option_map written_name
-        (find (λ c. not (is_key_of columns.now keys.now c)) (bare_names having.now))) }
+        (find (λ c. not (is_key_of columns.now keys.now c))
+        (bare_names (option_map cond_form having.now)))) }
 {
     let mut names = Vec::new(alloc);
     push_filter_names(false, having, &mut names)?;

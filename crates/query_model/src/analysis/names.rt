@@ -1,7 +1,7 @@
 // Names of tables and columns.
-ghost use Rattle.std.specs.Prelude.{◌≡◌, ◌++◌, ◌∷◌, [], IfOk, OnOk, bytes_eq, length, flat_map};
+ghost use Rattle.std.specs.Prelude.{◌≡◌, ◌++◌, ◌∷◌, [], IfOk, OnOk, bytes_eq, length, flat_map, option_map};
 ghost use Rattle.std.specs.List.{list_any};
-ghost use Rattle.query_model.specs.Names.{NamePair as Pair, meant, meant_type as type_meant, written as written_name, expr_columns, argument_columns, cond_operands, operands_of, item_columns, join_pairs, text_columns, listed, same_column as are_one_column, columns_in, is_key_of, key_place as place_of_key, place_in, unknown_column as unknown_among, ambiguous_column as ambiguous_among};
+ghost use Rattle.query_model.specs.Names.{NamePair as Pair, meant, meant_type as type_meant, written as written_name, expr_columns, argument_columns, argument_form, cond_form, formula, operand_form, sides_in, sides_of, item_columns, item_what, join_pairs, text_columns, listed, same_column as are_one_column, columns_in, is_key_of, key_place as place_of_key, place_in, unknown_column as unknown_among, ambiguous_column as ambiguous_among};
 
 use crate::analysis::columns::FromColumn;
 use crate::query::{
@@ -139,7 +139,7 @@ pub(crate) fn push_expr_names(
     e: &ExprOf<ColumnRef>,
     names: &mut Vec<ColumnRef>,
 ) -> Result<(), Memory>
-    ensures { OnOk result (names.new.items ≡ names.old.items ++ expr_columns e.now) }
+    ensures { OnOk result (names.new.items ≡ names.old.items ++ expr_columns (formula e.now)) }
 {
     match e {
         ExprOf::Column(c) => push_name(c, names),
@@ -152,7 +152,8 @@ pub(crate) fn push_expr_names(
 }
 
 fn push_call_names(call: &AggCall<ColumnRef>, names: &mut Vec<ColumnRef>) -> Result<(), Memory>
-    ensures { OnOk result (names.new.items ≡ names.old.items ++ argument_columns call.now.arg) }
+    ensures { OnOk result (names.new.items
+        ≡ names.old.items ++ argument_columns (argument_form call.now.arg)) }
 {
     match &call.arg {
         Some(e) => push_expr_names(e, names),
@@ -166,7 +167,8 @@ fn push_operand_names(
     operand: &Operand<ColumnRef>,
     names: &mut Vec<ColumnRef>,
 ) -> Result<(), Memory>
-    ensures { OnOk result (names.new.items ≡ names.old.items ++ columns_in in_calls operand.now) }
+    ensures { OnOk result (names.new.items
+        ≡ names.old.items ++ columns_in in_calls (operand_form operand.now)) }
 {
     match operand {
         Operand::Plain(e) => push_expr_names(e, names),
@@ -181,14 +183,14 @@ fn push_operand_names(
     }
 }
 
-#[tactic(auto, unfolding(crate::specs::Refusals::cond_operands))]
+#[tactic(auto, unfolding(crate::specs::Formulas::sides_of))]
 fn push_cond_names(
     in_calls: bool,
     cond: &CondOf<ColumnRef>,
     names: &mut Vec<ColumnRef>,
 ) -> Result<(), Memory>
     ensures { OnOk result (names.new.items
-        ≡ names.old.items ++ flat_map (columns_in in_calls) (cond_operands cond.now)) }
+        ≡ names.old.items ++ flat_map (columns_in in_calls) (sides_of (cond_form cond.now))) }
 {
     match cond {
         CondOf::Compare(_, a, b) => {
@@ -214,7 +216,8 @@ pub(crate) fn push_filter_names(
     names: &mut Vec<ColumnRef>,
 ) -> Result<(), Memory>
     ensures { OnOk result (names.new.items
-        ≡ names.old.items ++ flat_map (columns_in in_calls) (operands_of filter.now)) }
+        ≡ names.old.items
+        ++ flat_map (columns_in in_calls) (sides_in (option_map cond_form filter.now))) }
 {
     match filter {
         Some(cond) => push_cond_names(in_calls, cond, names),
@@ -223,7 +226,8 @@ pub(crate) fn push_filter_names(
 }
 
 fn push_item_names(item: &Item, names: &mut Vec<ColumnRef>) -> Result<(), Memory>
-    ensures { OnOk result (names.new.items ≡ names.old.items ++ item_columns item.now.what) }
+    ensures { OnOk result
+        (names.new.items ≡ names.old.items ++ item_columns (item_what item.now.what)) }
 {
     match &item.what {
         ItemKind::Plain(e) => push_expr_names(e, names),
@@ -243,7 +247,7 @@ pub(crate) fn listed_items(items: &Items) -> &[Item]
 
 fn push_all_items(items: &[Item], names: &mut Vec<ColumnRef>) -> Result<(), Memory>
     ensures { OnOk result (names.new.items
-        ≡ names.old.items ++ flat_map (λ (i : Item). item_columns i.what) items.now) }
+        ≡ names.old.items ++ flat_map (λ (i : Item). item_columns (item_what i.what)) items.now) }
 {
     for item in items {
         push_item_names(item, names)?;

@@ -1,16 +1,16 @@
 // What expressions are, and whether types fit.
-ghost use Rattle.std.specs.Prelude.{◌≡◌};
+ghost use Rattle.std.specs.Prelude.{◌≡◌, option_map};
 ghost use Rattle.std.specs.List.{list_all};
-ghost use Rattle.query_model.specs.Names.{number_of, can_hold as holds_number, arith_typing as typing_of_arith, known_typing as typing_known, expr_typing as typing_of_expr, call_typing as typing_of_call, agg_typing as typing_of_agg, operand_typing as typing_of_operand, item_typing as typing_of_item, comparable as are_comparable, cond_fits as fits, fits_where, is_typed as has_type, listed, as_typing, number_value, types_fit as all_types_fit};
+ghost use Rattle.query_model.specs.Names.{number_of, arith_typing as typing_of_arith, known_typing as typing_known, expr_typing as typing_of_expr, call_typing as typing_of_call, agg_typing as typing_of_agg, operand_typing as typing_of_operand, item_typing as typing_of_item, comparable as are_comparable, cond_fits as fits, fits_where, is_typed as has_type, listed, argument_form, as_typing, cond_form, formula, item_what, operand_form, types_fit as all_types_fit};
 
 use crate::analysis::columns::FromColumn;
 use crate::analysis::names::meant_type;
-use crate::plain::arith_type;
+use crate::plain::{arith_type, can_hold};
 use crate::query::{
     AggCall, AggOp, ArithOp, ColumnRef, CondOf, ExprOf, Item, ItemKind, Items, Number, Operand,
     Query,
 };
-use chunk_data::{ColumnType, PlainType};
+use chunk_data::ColumnType;
 
 /// What an expression is: a plain number, a value of a type, or neither, where types don't fit.
 #[derive(Clone, Copy, PartialEq, Eq)]
@@ -18,30 +18,6 @@ pub(crate) enum ExprTyping {
     Plain(Number),
     Typed(ColumnType),
     Unfit,
-}
-
-fn can_hold(kind: ColumnType, n: Number) -> bool
-    ensures { result ≡ holds_number kind (number_of n) }
-{
-    match kind.plain() {
-        PlainType::Int64 => {
-            if n.negative {
-                n.size <= 1 << 63
-            } else {
-                n.size < 1 << 63
-            }
-        }
-        PlainType::UInt64 => is_uint(n.negative, n.size),
-        PlainType::Text => false,
-    }
-}
-
-/// Whether a number is a UInt64. Its size is an argument of its own, since a clause knows the range
-/// of such a one.
-fn is_uint(negative: bool, size: u64) -> bool
-    ensures { result ≡ holds_number ColumnType.UInt64 (number_value negative size) }
-{
-    !negative || size == 0
 }
 
 /// What arithmetic is of two operands with types.
@@ -98,7 +74,7 @@ fn known_typing(kind: Option<ColumnType>) -> ExprTyping
 /// What the expression is over From.
 #[tactic(auto, unfolding(crate::specs::Refusals::expr_typing))]
 pub(crate) fn expr_typing(e: &ExprOf<ColumnRef>, columns: &[FromColumn]) -> ExprTyping
-    ensures { as_typing result ≡ typing_of_expr columns.now e.now }
+    ensures { as_typing result ≡ typing_of_expr columns.now (formula e.now) }
 {
     match e {
         ExprOf::Column(c) => known_typing(meant_type(c, columns)),
@@ -149,7 +125,8 @@ fn typed_or_unfit(kind: ExprTyping) -> ExprTyping
 }
 
 fn agg_typing(call: &AggCall<ColumnRef>, columns: &[FromColumn]) -> ExprTyping
-    ensures { as_typing result ≡ typing_of_agg columns.now call.now.op call.now.arg }
+    ensures { as_typing result
+        ≡ typing_of_agg columns.now call.now.op (argument_form call.now.arg) }
 {
     match &call.arg {
         Some(e) => call_typing(call.op, expr_typing(e, columns)),
@@ -158,7 +135,7 @@ fn agg_typing(call: &AggCall<ColumnRef>, columns: &[FromColumn]) -> ExprTyping
 }
 
 fn operand_typing(operand: &Operand<ColumnRef>, columns: &[FromColumn]) -> ExprTyping
-    ensures { as_typing result ≡ typing_of_operand columns.now operand.now }
+    ensures { as_typing result ≡ typing_of_operand columns.now (operand_form operand.now) }
 {
     match operand {
         Operand::Plain(e) => expr_typing(e, columns),
@@ -189,7 +166,7 @@ fn comparable(a: ExprTyping, b: ExprTyping) -> bool
 /// Whether the types fit in each comparison of the condition.
 #[tactic(auto, unfolding(crate::specs::Refusals::cond_fits))]
 fn cond_fits(cond: &CondOf<ColumnRef>, columns: &[FromColumn]) -> bool
-    ensures { result ≡ fits columns.now cond.now }
+    ensures { result ≡ fits columns.now (cond_form cond.now) }
 {
     match cond {
         CondOf::Compare(_, a, b) => {
@@ -204,7 +181,7 @@ fn cond_fits(cond: &CondOf<ColumnRef>, columns: &[FromColumn]) -> bool
 }
 
 fn filter_fits(filter: &Option<CondOf<ColumnRef>>, columns: &[FromColumn]) -> bool
-    ensures { result ≡ fits_where columns.now filter.now }
+    ensures { result ≡ fits_where columns.now (option_map cond_form filter.now) }
 {
     match filter {
         Some(cond) => cond_fits(cond, columns),
@@ -220,7 +197,7 @@ fn is_typed(kind: ExprTyping) -> bool
 
 /// What the item is.
 pub(crate) fn item_typing(item: &Item, columns: &[FromColumn]) -> ExprTyping
-    ensures { as_typing result ≡ typing_of_item columns.now item.now.what }
+    ensures { as_typing result ≡ typing_of_item columns.now (item_what item.now.what) }
 {
     match &item.what {
         ItemKind::Plain(e) => expr_typing(e, columns),
@@ -229,14 +206,15 @@ pub(crate) fn item_typing(item: &Item, columns: &[FromColumn]) -> ExprTyping
 }
 
 fn item_fits(item: &Item, columns: &[FromColumn]) -> bool
-    ensures { result ≡ has_type (typing_of_item columns.now item.now.what) }
+    ensures { result ≡ has_type (typing_of_item columns.now (item_what item.now.what)) }
 {
     is_typed(item_typing(item, columns))
 }
 
 fn items_fit(items: &Items, columns: &[FromColumn]) -> bool
     ensures { result
-        ≡ list_all (λ (i : Item). has_type (typing_of_item columns.now i.what)) (listed items.now) }
+        ≡ list_all (λ (i : Item). has_type (typing_of_item columns.now (item_what i.what)))
+        (listed items.now) }
 {
     match items {
         Items::Star => true,
@@ -246,7 +224,8 @@ fn items_fit(items: &Items, columns: &[FromColumn]) -> bool
 
 fn list_fits(items: &[Item], columns: &[FromColumn]) -> bool
     ensures { result
-        ≡ list_all (λ (i : Item). has_type (typing_of_item columns.now i.what)) items.now }
+        ≡ list_all (λ (i : Item). has_type (typing_of_item columns.now (item_what i.what)))
+        items.now }
 {
     items.iter().all(|item| item_fits(item, columns))
 }

@@ -1,7 +1,7 @@
 // The outputs of a query: their names and types, and what is made of rows.
 ghost use Rattle.std.specs.Prelude.{◌≡◌, ◌++◌, ◌≤◌, codes, decimal, length, map, true, false, IfOk};
 ghost use Rattle.std.specs.List.{All};
-ghost use Rattle.query_model.specs.Names.{FromColumn as Column, plain_name as name_of_kind, name_or, item_names as names_of_items, output_names, item_typing as typing_of_item, is_grouped as has_groups, listed, AreColumnsFrom, ArePlainItems, IsShape, output_types, known_type as type_known, types_of, place_in, as_typing, is_key_of, CanBePicked, HasNoCall};
+ghost use Rattle.query_model.specs.Names.{FromColumn as Column, plain_name as name_of_kind, name_or, item_names as names_of_items, output_names, item_typing as typing_of_item, is_grouped as has_groups, item_what, listed, AreColumnsFrom, ArePlainItems, IsShape, output_types, known_type as type_known, types_of, place_in, as_typing, is_key_of, CanBePicked, HasNoCall};
 
 use crate::analysis::columns::FromColumn;
 use crate::analysis::groups::{is_grouped, made_groups};
@@ -21,7 +21,7 @@ fn numbered_name(alloc: Global, k: usize) -> Result<Bytes, Memory>
 }
 
 fn expr_name(alloc: Global, e: &ExprOf<ColumnRef>, k: usize) -> Result<Bytes, Memory>
-    ensures { IfOk result (λ name. name ≡ name_of_kind (ItemKind.Plain e.now) k) }
+    ensures { IfOk result (λ name. name ≡ name_of_kind (item_what (ItemKind.Plain e.now)) k) }
 {
     match e {
         ExprOf::Column(c) => c.name.copy(),
@@ -31,7 +31,7 @@ fn expr_name(alloc: Global, e: &ExprOf<ColumnRef>, k: usize) -> Result<Bytes, Me
 }
 
 fn plain_name(alloc: Global, what: &ItemKind, k: usize) -> Result<Bytes, Memory>
-    ensures { IfOk result (λ name. name ≡ name_of_kind what.now k) }
+    ensures { IfOk result (λ name. name ≡ name_of_kind (item_what what.now) k) }
 {
     match what {
         ItemKind::Plain(e) => expr_name(alloc, e, k),
@@ -41,7 +41,8 @@ fn plain_name(alloc: Global, what: &ItemKind, k: usize) -> Result<Bytes, Memory>
 
 /// The output name of the item with place `k`, counted from 1.
 fn item_name(alloc: Global, item: &Item, k: usize) -> Result<Bytes, Memory>
-    ensures { IfOk result (λ name. name ≡ name_or item.now.alias (name_of_kind item.now.what k)) }
+    ensures { IfOk result (λ name. name
+        ≡ name_or item.now.alias (name_of_kind (item_what item.now.what) k)) }
 {
     match &item.alias {
         Some(name) => name.copy(),
@@ -100,7 +101,7 @@ fn known_type(kind: ExprTyping) -> ColumnType
 }
 
 fn item_type(item: &Item, columns: &[FromColumn]) -> ColumnType
-    ensures { result ≡ type_known (typing_of_item columns.now item.now.what) }
+    ensures { result ≡ type_known (typing_of_item columns.now (item_what item.now.what)) }
 {
     known_type(item_typing(item, columns))
 }
@@ -111,7 +112,8 @@ fn item_types(
     columns: &[FromColumn],
 ) -> Result<List<ColumnType>, Memory>
     ensures { IfOk result (λ types. types
-        ≡ map (λ (i : Item). type_known (typing_of_item columns.now i.what)) items.now) }
+        ≡ map (λ (i : Item). type_known (typing_of_item columns.now (item_what i.what)))
+        items.now) }
 {
     let mut types = Vec::with_capacity(alloc, items.len())?;
     for item in items {

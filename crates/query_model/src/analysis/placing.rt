@@ -187,7 +187,7 @@ fn place_operand(
 // A comparison with places. It stands apart from the recursion, whose frames are to be small: texts
 // nest a thousand conditions.
 #[inline(never)]
-#[tactic(auto, unfolding(crate::specs::Refusals::cond_operands))]
+#[tactic(auto, unfolding(crate::specs::Checks::cond_operands))]
 fn place_comparison(
     alloc: Global,
     scope: Scope,
@@ -211,7 +211,7 @@ fn place_comparison(
 }
 
 /// The condition with places. Its calls go behind those that stand, and their places in its place.
-#[tactic(auto, unfolding(crate::specs::Refusals::cond_operands))]
+#[tactic(auto, unfolding(crate::specs::Checks::cond_operands))]
 fn place_cond(
     alloc: Global,
     scope: Scope,

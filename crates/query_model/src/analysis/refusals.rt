@@ -1,6 +1,6 @@
 // Why a query is refused: each condition over the whole query, and the first that it meets.
-ghost use Rattle.std.specs.Prelude.{◌≡◌, ◌∷◌, [], length, map, IfOk};
-ghost use Rattle.query_model.specs.Names.{unknown_table as table_refusal, unknown_column as unknown_among, ambiguous_column as ambiguous_among, bad_join_key as pair_refusal, type_mismatch as type_refusal, not_grouped as group_refusal, bad_order_key as order_refusal, too_wide as width_refusal, refusals, calls_in, cond_operands, operand_calls, operands_of, total, join_pairs, output_names, query_tables, text_columns, first_of_all};
+ghost use Rattle.std.specs.Prelude.{◌≡◌, ◌∷◌, [], length, map, option_map, IfOk};
+ghost use Rattle.query_model.specs.Names.{unknown_table as table_refusal, unknown_column as unknown_among, ambiguous_column as ambiguous_among, bad_join_key as pair_refusal, type_mismatch as type_refusal, not_grouped as group_refusal, bad_order_key as order_refusal, too_wide as width_refusal, refusals, calls_in, cond_form, operand_calls, operand_form, sides_in, sides_of, total, join_pairs, output_names, query_tables, text_columns, first_of_all};
 
 use crate::analysis::columns::FromColumn;
 use crate::analysis::groups::{added, count_item_calls, not_grouped};
@@ -47,7 +47,7 @@ fn unknown_table(query: &Query, tables: &[Schema]) -> Result<Option<Refusal>, Me
 }
 
 fn count_operand_calls(operand: &Operand<ColumnRef>) -> usize
-    ensures { result ≡ operand_calls operand.now }
+    ensures { result ≡ operand_calls (operand_form operand.now) }
 {
     match operand {
         Operand::Plain(_) => 0,
@@ -56,9 +56,10 @@ fn count_operand_calls(operand: &Operand<ColumnRef>) -> usize
     }
 }
 
-#[tactic(auto, using(crate::proofs::CallLaws::calls_of_both), unfolding(crate::specs::Refusals::cond_operands))]
+#[tactic(auto, using(crate::proofs::CallLaws::calls_of_both), unfolding(crate::specs::Formulas::sides_of))]
 fn count_cond_calls(cond: &CondOf<ColumnRef>) -> Result<usize, Memory>
-    ensures { IfOk result (λ count. count ≡ total (map operand_calls (cond_operands cond.now))) }
+    ensures { IfOk result (λ count. count
+        ≡ total (map operand_calls (sides_of (cond_form cond.now)))) }
 {
     match cond {
         CondOf::Compare(_, a, b) => added(count_operand_calls(a), count_operand_calls(b)),
@@ -79,7 +80,8 @@ fn count_cond_calls(cond: &CondOf<ColumnRef>) -> Result<usize, Memory>
 }
 
 fn count_having_calls(having: &Option<CondOf<ColumnRef>>) -> Result<usize, Memory>
-    ensures { IfOk result (λ count. count ≡ total (map operand_calls (operands_of having.now))) }
+    ensures { IfOk result (λ count. count
+        ≡ total (map operand_calls (sides_in (option_map cond_form having.now)))) }
 {
     match having {
         Some(cond) => count_cond_calls(cond),

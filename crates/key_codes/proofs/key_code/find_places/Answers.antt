@@ -1,31 +1,15 @@
-use Rattle.std.proofs.Common.{[], ◌≡◌, ◌<◌, ◌∙◌, ◌∷◌, length, false, true, map, replicate, sym, ap, subst, arith}
+use Rattle.std.proofs.Common.{[], ◌≡◌, ◌<◌, ◌∙◌, ◌∷◌, length, false, true, map, sym, ap, subst, arith}
 use Rattle.chunk_data.specs.Values.{is_text, plain_type}
-use Rattle.key_codes.proofs.Imports.{All, IsCell, IsSeenFor, byte_codes, codes_in, column_type, first_key_column, number_codes, plain_types_at, type_at, value_code, values, whole_codes}
+use Rattle.key_codes.proofs.Imports.{All, IsCell, IsSeenFor, codes_in, column_type, first_key_column, number_codes, plain_types_at, values}
 use Rattle.key_codes.proofs.CodeLaws.{on-ok, on-ok-more}
 use Rattle.key_codes.proofs.KeyLaws.{found-codes, found-places, kind-at, one-codes, kinds-long, one-form, one-keys, text-cells, text-codes, whole-codes}
 use Rattle.key_codes.proofs.key_code.find_places.Goals as goal
 
 pub returns-in-Whole-clause-places : goal.returns-in-Whole-clause-places
-returns-in-Whole-clause-places c =
-    let places = c.args.places.now in
-    let t = c.args.chunk.now in
-    let form = subst (IsSeenFor (plain_types_at t.types places)) c.in-Whole.is c.requires.form in
-    found-places c.whole_places.result c.args.adds (replicate c.rows.result [])
-    (whole_codes c.in-Whole.some) (whole_codes c.whole_places.new.some) _ _
-    (ap (λ n. replicate n []) c.rows.ensures.count
-    ∙ whole-codes places t.rows (sym (kinds-long t.types places) ∙ form))
-    (ap codes_in c.in-Whole.is) c.whole_places.ensures
+returns-in-Whole-clause-places c = grind (arith, found-places, whole-codes, kinds-long)
 
 pub returns-in-Whole-clause-seen : goal.returns-in-Whole-clause-seen
-returns-in-Whole-clause-seen c =
-    let places = c.args.places.now in
-    let t = c.args.chunk.now in
-    let form = subst (IsSeenFor (plain_types_at t.types places)) c.in-Whole.is c.requires.form in
-    found-codes c.whole_places.result c.args.adds (replicate c.rows.result [])
-    (whole_codes c.in-Whole.some) (whole_codes c.whole_places.new.some) _ _
-    (ap (λ n. replicate n []) c.rows.ensures.count
-    ∙ whole-codes places t.rows (sym (kinds-long t.types places) ∙ form))
-    (ap codes_in c.in-Whole.is) c.whole_places.ensures
+returns-in-Whole-clause-seen c = grind (arith, found-codes, whole-codes, kinds-long)
 
 pub returns-in_ok-bits-in-Numbers-clause-places : goal.returns-in_ok-bits-in-Numbers-clause-places
 returns-in_ok-bits-in-Numbers-clause-places c =
@@ -51,24 +35,10 @@ returns-in_ok-bits-in-Numbers-clause-cells c =
     (c.requires.within 0 0 lt) c.column.ensures.values c.in_ok-bits-in-Numbers.ensures.cells)
 
 pub returns-then-places-eq1-clause-places : goal.returns-then-places-eq1-clause-places
-returns-then-places-eq1-clause-places c =
-    let places = c.args.places.now in
-    let t = c.args.chunk.now in
-    found-places c.text_places.result c.args.adds c.texts.result.now
-    (byte_codes c.in-Bytes.codes) (byte_codes c.text_places.new.seen) _ _
-    (text-codes c.texts.result.now ∙ ap (map value_code) (sym c.texts.ensures)
-    ∙ one-codes places t.rows (values c.column-then-places-eq1.result.now) c.if-places-eq1.true
-    c.column-then-places-eq1.ensures.values) (ap codes_in c.in-Bytes.is) c.text_places.ensures.finds
+returns-then-places-eq1-clause-places c = grind (arith, found-places, text-codes, one-codes)
 
 pub returns-then-places-eq1-clause-seen : goal.returns-then-places-eq1-clause-seen
-returns-then-places-eq1-clause-seen c =
-    let places = c.args.places.now in
-    let t = c.args.chunk.now in
-    found-codes c.text_places.result c.args.adds c.texts.result.now
-    (byte_codes c.in-Bytes.codes) (byte_codes c.text_places.new.seen) _ _
-    (text-codes c.texts.result.now ∙ ap (map value_code) (sym c.texts.ensures)
-    ∙ one-codes places t.rows (values c.column-then-places-eq1.result.now) c.if-places-eq1.true
-    c.column-then-places-eq1.ensures.values) (ap codes_in c.in-Bytes.is) c.text_places.ensures.finds
+returns-then-places-eq1-clause-seen c = grind (arith, found-codes, text-codes, one-codes)
 
 pub returns-then-places-eq1-clause-cells : goal.returns-then-places-eq1-clause-cells
 returns-then-places-eq1-clause-cells c =
@@ -100,9 +70,4 @@ texts-requires c =
     grind (arith, kind-at)
 
 pub bits_of-requires : goal.bits_of-requires
-bits_of-requires c =
-    let places = c.args.places.now in
-    let t = c.args.chunk.now in
-    let seen = subst (IsSeenFor (plain_types_at t.types places)) c.in-Numbers.is c.requires.form in
-    let form = one-form t.types places false seen.0 seen.1 in
-    grind (arith, kind-at)
+bits_of-requires c = grind (arith, one-form, kind-at)

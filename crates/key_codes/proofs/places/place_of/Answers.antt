@@ -1,4 +1,4 @@
-use Rattle.std.proofs.Common.{Global, Vec, ℕ, subst, sym}
+use Rattle.std.proofs.Common.{Global, Vec, ℕ, subst, sym, arith}
 use Rattle.key_codes.proofs.CodeLaws.{finds-code, misses-code, puts-code}
 use Rattle.key_codes.proofs.Imports.{FindsCode, byte_codes}
 use Rattle.key_codes.proofs.places.place_of.Goals.{in-Ok, in-Err}
@@ -10,11 +10,7 @@ returns-in-Some c =
     c.in-Some.place c.in-Some.ensures.index c.in-Some.ensures.found
 
 pub returns-then-not-adds : goal.returns-then-not-adds
-returns-then-not-adds c =
-    let codes = byte_codes c.args.seen.now in
-    subst (λ b. FindsCode b c.args.code.now codes codes c.len.result) (sym c.if-not-adds.true)
-    (misses-code (λ (k : Vec ℕ Global). k.items) c.args.code.now c.args.seen.now.keys c.len.result
-    c.len.ensures.len c.in_default.ensures.index)
+returns-then-not-adds c = grind (arith, misses-code)
 
 pub returns : goal.returns
 returns c = elim c.match-insert_full.branch [

@@ -1,22 +1,13 @@
-use Rattle.std.proofs.Common.{[], ◌∷◌, subst, sym}
+use Rattle.std.proofs.Common.{[], ◌∷◌, subst, sym, arith}
 use Rattle.key_codes.proofs.CodeLaws.{finds-number, misses-number, puts-number}
 use Rattle.key_codes.proofs.Imports.{FindsCode, number_codes}
 use Rattle.key_codes.proofs.places.place_of_number.Goals as goal
 
 pub returns-in-Some : goal.returns-in-Some
-returns-in-Some c =
-    let codes = number_codes c.args.seen.now in
-    subst (λ b. FindsCode b (c.args.number ∷ []) codes codes c.in-Some.place)
-    (sym c.if-not-adds.true)
-    (finds-number c.args.number c.args.seen.now.keys c.in-Some.place c.in-Some.ensures.index)
+returns-in-Some c = grind (arith, finds-number)
 
 pub returns-in-None : goal.returns-in-None
-returns-in-None c =
-    let codes = number_codes c.args.seen.now in
-    subst (λ b. FindsCode b (c.args.number ∷ []) codes codes c.len.result)
-    (sym c.if-not-adds.true)
-    (misses-number c.args.number c.args.seen.now.keys c.len.result c.len.ensures.len
-    c.in-None.ensures.index)
+returns-in-None c = grind (arith, misses-number)
 
 pub returns-in-Ok : goal.returns-in-Ok
 returns-in-Ok c =

@@ -1,4 +1,4 @@
-use Rattle.query_model.proofs.Imports.{Schema, ap, bytes_eq, sym, ◌∙◌}
+use Rattle.query_model.proofs.Imports.{Schema, ap, bytes_eq, sym, ◌∙◌, arith}
 use Rattle.query_model.proofs.PlaceLaws.{place_found, place_at_end}
 use Rattle.query_model.proofs.analysis.placing.schema_place.Goals as goal
 
@@ -9,5 +9,4 @@ returns-then-eq c =
     (ap (λ n. bytes_eq n c.args.name.now) (sym c.as_slice.ensures) ∙ sym c.if-eq.ensures)
 
 pub returns : goal.returns
-returns c = place_at_end (λ (s : Schema). bytes_eq s.name c.args.name.now) c.args.tables.now
-    c.loop-i.i c.loop-i.invariant c.loop-i-test.false
+returns c = grind (arith, place_at_end)
