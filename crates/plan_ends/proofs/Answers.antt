@@ -1,5 +1,5 @@
 -- The end of a run of a plan's graph, by its nodes and its collector.
-use Rattle.plan_ends.proofs.Imports.{KeepsWorked, List, Some, [], ap, arith, get_or, inl, inr, is_some, length, length-append, map, refl, subst, suc, sym, true, worked-where-fit, zero, ℕ, ◌++◌, ◌+◌, ◌<◌, ◌∙◌, ◌∷◌, ◌≡◌, ◌≤◌, ◌⊎◌, AllByRecursion, AllFitDraft, AllPull, AllTyped, ArePortsOf, BoxPicture, Draft, DraftNode, EachGivesIf, Files, GivesIf, HasRun, IsDraftGraph, IsSmall, KeepsRows, Lists, NodeForm, NodePort, PartSpec, IsPlanGraph, Pulls, SelectPlan, Spec, Stream, Wire, rows_together, body_nodes, box_at, collect_node, collector, consumer_of, each-same, each-typed, few-inputs, few-outputs, fits, forms, get_or-map, get_or_at, get_or_default, graphs-same, input_count, length-map, map-append, no_draft, node_form, output-below-count, output_count, part_spec, plan-fits, plan-graph, plan_nodes, ports_of, producer_of, ranks-count, stream_rows, spec_form, unboxed, wire_at, with_nodes, BoxGives, HasEnded, HasListed, HasPulled, KeepsContract, IsListedNode, IsOrdinary, IsReady, IsUngrown, in_stream, out_stream, sources_of_files, stream_pulled_at, stream_pushed_at, reading_in, IsWorkOf}
+use Rattle.plan_ends.proofs.Imports.{KeepsWorked, List, Some, [], ap, arith, get_or, inl, inr, is_some, length, length-append, map, refl, subst, suc, sym, true, worked-where-fit, zero, ℕ, ◌++◌, ◌+◌, ◌<◌, ◌∙◌, ◌∷◌, ◌≡◌, ◌≤◌, ◌⊎◌, AllByRecursion, AllFitDraft, AllPull, ArePortsOf, BoxPicture, Draft, DraftNode, EachGivesIf, Files, GivesIf, HasRun, IsDraftGraph, KeepsRows, Lists, NodeForm, NodePort, PartSpec, Pulls, Spec, Stream, Wire, rows_together, box_at, collect_node, collector, consumer_of, each-same, each-typed, few-inputs, few-outputs, forms, get_or-map, get_or_at, get_or_default, graphs-same, input_count, length-map, map-append, no_draft, node_form, output-below-count, output_count, part_spec, ports_of, producer_of, ranks-count, stream_rows, spec_form, unboxed, wire_at, with_nodes, BoxGives, HasEnded, HasListed, HasPulled, KeepsContract, IsListedNode, IsOrdinary, IsReady, IsUngrown, in_stream, out_stream, sources_of_files, stream_pulled_at, stream_pushed_at, reading_in, IsWorkOf, Typed}
 use Rattle.query_model.specs.declared.processor_spec.Spec.TheVariants as spec
 use Rattle.plan_ends.proofs.GrownLists.{at-recursion}
 use Rattle.plan_ends.proofs.Pulled.{kept-counted}
@@ -294,7 +294,7 @@ pub list-run : (files : Files) (body : List DraftNode) (rank : ℕ) (nodes : Lis
     (boxes : List BoxPicture) (h : HasEnded files nodes boxes) (last : ℕ) → IsDraftGraph nodes
     → AllFitDraft (body ++ collector rank ∷ []) no_draft
     → forms nodes ≡ forms (body ++ collector rank ∷ [])
-    → AllTyped (body ++ collector rank ∷ []) []
+    → Typed (body ++ collector rank ∷ []) [] []
     → AllByRecursion IsReady nodes → length (body ++ collector rank ∷ []) ≡ last + 1
     → ListRun files (body ++ collector rank ∷ []) nodes boxes h last
 list-run files body rank nodes boxes h last g fit e typed ready count =
@@ -305,7 +305,8 @@ list-run files body rank nodes boxes h last g fit e typed ready count =
     let along : AllPull pulled pushed (with_nodes steps no_draft).wires =
     subst (λ (d : Draft). AllPull pulled pushed d.wires) (graphs-same nodes steps no_draft e)
     run.1 in
-    let each = each-typed (sources_of_files files) pulled pushed steps no_draft [] fit tt typed
+    let each = each-typed (sources_of_files files) pulled pushed steps no_draft [] [] fit tt
+    typed.types
     (each-same (sources_of_files files) pulled pushed 0 nodes steps e run.0) along in
     record {
       run = record { each = each; along = along };
@@ -316,19 +317,3 @@ list-run files body rank nodes boxes h last g fit e typed ready count =
           (h.done.pushed n) (node-kept files nodes boxes h g ready n z (lt, is)
           (ordinary z (at-recursion IsReady nodes ready n z lt is) ungrown)) n);
     }
-
--- ---- the plan
-
-abbrev pub PlanRun : (files : Files) → SelectPlan → (nodes : List DraftNode)
-    → (boxes : List BoxPicture) → HasEnded files nodes boxes → ℕ → Type 0
-PlanRun files p nodes boxes h last = ListRun files (plan_nodes p) nodes boxes h last
-
-pub plan-run : (files : Files) (p : SelectPlan) (nodes : List DraftNode) (boxes : List BoxPicture)
-    (h : HasEnded files nodes boxes) (last : ℕ) → IsSmall p
-    → forms nodes ≡ forms (plan_nodes p) → AllTyped (plan_nodes p) []
-    → AllByRecursion IsReady nodes → length (plan_nodes p) ≡ last + 1
-    → PlanRun files p nodes boxes h last
-plan-run files p nodes boxes h last small e typed ready count =
-    let g : IsPlanGraph nodes = plan-graph p nodes small e in
-    list-run files (body_nodes p) 14 nodes boxes h last g.graph
-    (fits (plan_nodes p) (plan-fits p small).0).fit e typed ready count

@@ -1,13 +1,10 @@
 -- The columns of a table that a query names are those of the table that its plan reads, and its
 -- checked types are those of the rows that its items make.
-use Rattle.plan_ends.proofs.Imports.{Bool, IfSome, List, None, Option, Some, [], ap, append_assoc, ap₂, arith, bytes_eq, cond, false, filter, flat_map, length, length-append, map, not, option_map, refl, slice_index_or, subst, suc, sym, true, ℕ, ◌++◌, ◌+◌, ◌<◌, ◌==◌, ◌∙◌, ◌∷◌, ◌≡◌, AggCall, All, All-behind, All-cons, All-front, All-head, All-nil, All-tail, AreColumnsFrom, AreKeyPairs, ArePlainItems, BothOrNone, Checked, CheckedJoin, ColumnDecl, ColumnRef, ColumnType, EachWith, Expr, FromColumn, Grouped, Grouping, IsAnalysable, IsChecked, IsCheckedJoin, IsKeyPair, IsGrouping, IsOfKind, IsPlacedItem, IsShape, IsTypedQuery, Item, ItemKind, Items, Join, Listed, NamePair, OrderKey, Plain, Query, Schema, Shape, SortKey, Star, TableDecl, TableRef, TableUse, unrefused_is_accepted, all_fit, append-nil, are_keys, call_type, calls_of, column_is_of_kind, every_column, expr_is_of_kind, first_name, from_columns, from_types, get_or_at, group_row_types, is_grouped, is_join_pair, is_key_of, is_typed, item_typing, item_names, join_spec, join_tables, key_place, known_type, length-map, list_all, listed, map-append, means, meant_type, none_found, operands_of, output_names, output_types, pair_of, place_in, place_of, refusal_of, same_plain-is, sort_key, source_types, star_name, table_columns, tells_each, type_of, types_of, ungrouped_names, use_of, used_types, join_columns, pairs_fit, and_parts}
+use Rattle.plan_ends.proofs.Imports.{Bool, IfSome, List, None, Option, Some, [], ap, arith, bytes_eq, cond, false, filter, flat_map, length, map, not, option_map, refl, slice_index_or, subst, suc, sym, true, ℕ, ◌++◌, ◌+◌, ◌<◌, ◌==◌, ◌∙◌, ◌∷◌, ◌≡◌, All, All-cons, All-head, All-nil, All-tail, AreColumnsFrom, AreKeyPairs, ArePlainItems, BothOrNone, Checked, CheckedJoin, ColumnDecl, ColumnRef, ColumnType, EachWith, Expr, FromColumn, Grouped, IsAnalysable, IsChecked, IsCheckedJoin, IsKeyPair, IsOfKind, IsShape, IsTypedQuery, Item, Items, Join, Listed, NamePair, OrderKey, Plain, Query, Schema, Shape, SortKey, Star, TableDecl, TableRef, TableUse, unrefused_is_accepted, append-nil, column_is_of_kind, first_name, from_columns, from_types, is_grouped, is_join_pair, item_names, join_spec, join_tables, length-map, list_all, listed, map-append, means, meant_type, none_found, output_names, pair_of, place_in, place_of, refusal_of, same_plain-is, sort_key, source_types, star_name, table_columns, type_of, types_of, ungrouped_names, use_of, used_types, join_columns, pairs_fit, and_parts, shape_types, ArePicks, group_types, type_at, item_calls}
 use Rattle.chunk_data.specs.declared.typed_value.ColumnType.TheVariants as column
 use Rattle.query_model.specs.declared.query.ExprOf.TheVariants as expr
-use Rattle.query_model.specs.declared.query.ItemKind.TheVariants as kind
 use Rattle.query_model.specs.declared.query.Refusal.TheVariants as refuse
 use Rattle.query_model.specs.declared.query.TableRef.TheVariants as table
-use Rattle.plan_ends.proofs.PickTypes.{MeansOne, key-type, known-is, picks-types}
-use Rattle.plan_ends.proofs.ShapeTypes.{shape_types, type_at}
 
 types_kept : (table : List ℕ) (cs : List ColumnDecl)
     → map (λ (c : FromColumn). c.type)
@@ -25,56 +22,28 @@ types_of_table (d ∷ ds) (table.Named t) =
     grind (arith, types_kept, types_of_table ds (table.Named t))
 types_of_table tables t = grind arith
 
--- ---- the types of the output rows
+-- ---- as many output columns as names
 
--- the columns from column k on
-columns-types : (k : ℕ) (done : List ColumnType) (columns : List FromColumn) (es : List Expr)
-    → length done ≡ k → AreColumnsFrom k columns es
-    → types_of columns ≡ map (λ e. type_of e (done ++ types_of columns)) es
-unfolding type_of
-columns-types k done (c ∷ columns) (expr.Column n ∷ es) e h = grind (
-  arith,
-  get_or_at,
-  append_assoc,
-  columns-types (k + 1) (done ++ c.type ∷ []) columns es
-      (omega (arith, e, length-append done (c.type ∷ []))) h.1,
-  length-append done (c.type ∷ []),
-)
-columns-types k done columns es e h = grind arith
+names-counted : (k : ℕ) (items : List Item) → length (item_names k items) ≡ length items
+names-counted k [] = refl
+names-counted k (i ∷ items) = ap suc (names-counted (k + 1) items)
 
-items-types : (columns : List FromColumn) (items : List Item) (es : List Expr)
-    → EachWith (IsPlacedItem (place_in columns)) items es
-    → list_all (λ (i : Item). is_typed (item_typing columns i.what)) items ≡ true
-    → map (λ (i : Item). known_type (item_typing columns i.what)) items
-    ≡ map (λ e. type_of e (types_of columns)) es
-items-types columns (i ∷ items) (e ∷ es) is h =
-    let each = and_parts (is_typed (item_typing columns i.what))
-    (list_all (λ (i : Item). is_typed (item_typing columns i.what)) items) h in
-    ap₂ (λ t ts. t ∷ ts) (one i.what i.alias is.0 each.0) (items-types columns items es is.1 each.1)
-  where
-    one : (k : ItemKind) (alias : Option (List ℕ))
-        → IsPlacedItem (place_in columns) (record { what = k; alias = alias }) e
-        → is_typed (item_typing columns k) ≡ true
-        → known_type (item_typing columns k) ≡ type_of e (types_of columns)
-    one (kind.Plain a) alias is t = search (arith, known-is, expr_is_of_kind, every_column)
-    one (kind.Agg call) alias is t = absurd is
-items-types columns items es is h = grind arith
+columns-counted : (k : ℕ) (columns : List FromColumn) (es : List Expr) → AreColumnsFrom k columns es
+    → length columns ≡ length es
+columns-counted k (c ∷ columns) (expr.Column n ∷ es) h =
+    ap suc (columns-counted (k + 1) columns es h.1)
+columns-counted k columns es h = grind arith
 
-output-types : (columns : List FromColumn) (items : Items) (es : List Expr)
-    → ArePlainItems (place_in columns) columns items es
-    → list_all (λ (i : Item). is_typed (item_typing columns i.what)) (listed items) ≡ true
-    → output_types items columns ≡ map (λ e. type_of e (types_of columns)) es
-output-types columns Star es is h = columns-types 0 [] columns es refl is
-output-types columns (Listed items) es is h = items-types columns items es is h
+items-counted : (P : Item → Expr → Type 0) (items : List Item) (es : List Expr)
+    → EachWith P items es → length items ≡ length es
+items-counted P (i ∷ items) (e ∷ es) h = ap suc (items-counted P items es h.1)
+items-counted P items es h = grind arith
 
-names-count : (items : Items) (columns : List FromColumn)
-    → length (output_names items columns) ≡ length (output_types items columns)
-names-count Star columns = search (arith, length-map)
-names-count (Listed items) columns = search (arith, go, length-map)
-  where
-    go : (k : ℕ) (items : List Item) → length (item_names k items) ≡ length items
-    go k [] = refl
-    go k (i ∷ items) = ap suc (go (k + 1) items)
+picks-counted : (place : ColumnRef → ℕ) (k : ℕ) (items : List Item) (picks : List ℕ)
+    → ArePicks place k items picks → length items ≡ length picks
+picks-counted place k (i ∷ items) (p ∷ picks) h =
+    ap suc (picks-counted place (k + length (item_calls i.what)) items picks h.1)
+picks-counted place k items picks h = grind arith
 
 -- a test that one passes has a place
 place-within : {A : Type 0} (test : A → Bool) (xs : List A) → 0 < length (filter test xs)
@@ -110,13 +79,12 @@ pairs-fit left right (p ∷ pairs) e =
     (map (pair_of left right) pairs) (pair-is left right p each.0)
     (pairs-fit left right pairs each.1)
 
--- A query that is typed by the types of the rows that it reads of these tables. Its checked types
--- are those of the rows that its shape makes, which have the columns of its keys. The pairs of a
--- join have columns of either table.
+-- A query that is typed by the types of the rows that it reads of these tables. The rows that its
+-- shape makes have the columns of its keys. The pairs of a join have columns of either table.
 pub record IsTypedSelect (tables : List TableDecl) (c : Checked) : Type 0 where
   pub typed : IsTypedQuery (source_types tables c.from c.join) c
-  pub made : c.types ≡ shape_types c.shape (source_types tables c.from c.join)
-  pub keys : All (λ (key : SortKey). key.column < length c.types) c.order
+  pub keys : All (λ (key : SortKey).
+      key.column < length (shape_types c.shape (source_types tables c.from c.join))) c.order
   pub pairs : IfSome c.join (λ (j : CheckedJoin). AreKeyPairs (join_spec tables 0 c.from j))
 
 -- the types that are read, and the pairs of a join, by the tables that a query names
@@ -152,11 +120,43 @@ module _ (q : Query) (schemas : List Schema) (c : Checked) (none : refusal_of q 
   abbrev names : List (List ℕ)
   names = output_names q.items columns
 
+  abbrev made : List ColumnType
+  made = shape_types c.shape (from_types q schemas)
+
   abbrev Within : SortKey → Type 0
-  Within key = key.column < length c.types
+  Within key = key.column < length made
 
   abbrev is_no_name : OrderKey → Bool
   is_no_name key = not (length (filter (bytes_eq key.name) names) == 1)
+
+  -- the shape makes as many columns as the query has names
+  as-many-names : length names ≡ length made
+  as-many-names = go (is_grouped q) refl c.shape is.shape
+    where
+      no-star : (items : Items) (keys tested : List (List ℕ))
+          → option_map refuse.NotGrouped (first_name (star_name items ++ keys ++ tested)) ≡ None
+          → length (output_names items columns) ≡ length (listed items)
+      no-star Star keys tested h = absurd cc
+      no-star (Listed items) keys tested h = names-counted 1 items
+
+      go : (b : Bool) → is_grouped q ≡ b → (s : Shape) → IsShape q columns b s
+          → length names ≡ length (shape_types s (from_types q schemas))
+      go false e (Plain items) h = plain q.items h
+        where
+          plain : (items' : Items) → ArePlainItems (place_in columns) columns items' items
+              → length (output_names items' columns)
+              ≡ length (map (λ e. type_of e (from_types q schemas)) items)
+          plain Star h = search (arith, columns-counted, length-map)
+          plain (Listed listed') h = search (arith, names-counted, items-counted, length-map)
+      go false e (Grouped g) h = absurd h
+      go true e (Plain items) h = absurd h
+      go true e (Grouped g) h =
+          no-star q.items _ _
+          (subst (λ b. cond b
+          (option_map refuse.NotGrouped (first_name (ungrouped_names columns q))) None ≡ None) e
+          (unrefused_is_accepted q schemas none).grouped)
+          ∙ picks-counted _ _ (listed q.items) g.picks h.picks
+          ∙ sym (length-map g.picks (type_at (group_types g (from_types q schemas))))
 
   keys-within : (keys : List OrderKey) → All (λ key. is_no_name key ≡ false) keys
       → All Within (map (sort_key names) keys)
@@ -165,42 +165,9 @@ module _ (q : Query) (schemas : List Schema) (c : Checked) (none : refusal_of q 
       let place = place-within (bytes_eq key.name) names
       (one-passes (length (filter (bytes_eq key.name) names))
       (All-head (λ key. is_no_name key ≡ false) key keys h)) in
-      let count = names-count q.items columns ∙ ap (λ l. length l) (sym is.types) in
       All-cons Within (sort_key names key) (map (sort_key names) keys)
-      (omega (arith, place, count))
+      (omega (arith, place, as-many-names))
       (keys-within keys (All-tail (λ key. is_no_name key ≡ false) key keys h))
-
-  -- in a grouped query each output column is picked from the row of keys and calls
-  picked-types : IsAnalysable q → is_grouped q ≡ true → (g : Grouping) → IsGrouping q columns g
-      → output_types q.items columns
-      ≡ map (type_at (group_row_types g (from_types q schemas))) g.picks
-  picked-types can e g group =
-      let ok = unrefused_is_accepted q schemas none in
-      let P : ColumnRef → Type 0 = MeansOne columns in
-      let ones = All-front P _ _ (tells_each q schemas ok) in
-      let types : List ColumnType = types_of columns in
-      let rest : List ColumnType =
-      map (λ (call : AggCall ℕ). call_type call.op call.arg types) g.calls in
-      no-star q.items _ _
-      (subst (λ b. cond b (option_map refuse.NotGrouped (first_name (ungrouped_names columns q)))
-      None ≡ None) e ok.grouped)
-      ∙ picks-types columns (key_place columns q.keys) (is_key_of columns q.keys)
-      (group_row_types g types)
-      (λ c one is. ap (λ l. type_at (map (type_at types) l ++ rest) (key_place columns q.keys c))
-      group.keys ∙ key-type columns q.keys rest c (All-behind P _ q.keys ones) one is)
-      (flat_map calls_of (operands_of q.having)) (map (type_at types) g.keys) (length q.keys)
-      (listed q.items) g.picks g.calls
-      (length-map g.keys (type_at types) ∙ ap (λ l. length l) group.keys
-      ∙ length-map q.keys (place_in columns)) refl group.calls can.calls
-      (All-front P _ _ (All-front P _ _ (All-front P _ _ ones)))
-      (are_keys q schemas ok e).items (all_fit q schemas ok).items group.picks
-    where
-      no-star : (items : Items) (keys tested : List (List ℕ))
-          → option_map refuse.NotGrouped (first_name (star_name items ++ keys ++ tested)) ≡ None
-          → output_types items columns
-          ≡ map (λ (i : Item). known_type (item_typing columns i.what)) (listed items)
-      no-star Star keys tested h = absurd cc
-      no-star (Listed items) keys tested h = refl
 
   pub typed-select : (tables : List TableDecl)
       → schemas ≡ map (λ (d : TableDecl). d.schema) tables → IsAnalysable q
@@ -210,21 +177,11 @@ module _ (q : Query) (schemas : List Schema) (c : Checked) (none : refusal_of q 
       let ok = unrefused_is_accepted q schemas none in
       record {
         typed = subst (λ types. IsTypedQuery types c) t.types query;
-        made = grind (arith, made, shape_types);
-        keys = rw is.order (keys-within q.order (none_found is_no_name
-            (λ (key : OrderKey). refuse.BadOrderKey key.name) q.order ok.ordered));
+        keys = rw is.order (rw t.types at (keys-within q.order (none_found is_no_name
+            (λ (key : OrderKey). refuse.BadOrderKey key.name) q.order ok.ordered)));
         pairs = t.pairs (holds-if _ ok.pairs);
       }
     where
       holds-if : (b : Bool) → cond b None (Some refuse.BadJoinKey) ≡ None → b ≡ true
       holds-if true e = refl
       holds-if false e = absurd cc
-
-      made : (b : Bool) → is_grouped q ≡ b → (s : Shape) → IsShape q columns b s
-          → output_types q.items columns ≡ shape_types s (from_types q schemas)
-      made false e (Plain items) shape =
-          output-types columns q.items items shape
-          (all_fit q schemas (unrefused_is_accepted q schemas none)).items
-      made false e (Grouped g) shape = absurd shape
-      made true e (Plain items) shape = absurd shape
-      made true e (Grouped g) shape = picked-types can e g shape

@@ -1,5 +1,5 @@
 -- Plans have nodes of known kinds alone.
-use Rattle.plan_ends.proofs.Imports.{IfSome, List, None, Option, Some, [], arith, inr, refl, subst, suc, sym, zero, ℕ, ◌<◌, ◌∷◌, ◌≡◌, AllByRecursion, ArePortsOf, DraftNode, GrowthForm, IsPlan, IsSourceSpec, JoinsSources, NodeForm, PartSpec, PlanJoin, PlanShape, SelectPlan, SortSpec, Span, Spec, by-forms, every-append, every-front, every-weaker, forms, body_nodes, collect_node, gather_nodes, lane_nodes, lane_steps, limit_nodes, node_form, plan_nodes, read_nodes, read_steps, same-spec, select_steps, shape_nodes, sort_nodes, source_nodes, ⊤, IsReady, IsStep, IsUngrown, KindGives, KnownPorts, SourceHas}
+use Rattle.plan_ends.proofs.Imports.{IfSome, List, None, Option, Some, [], arith, inr, refl, subst, suc, sym, zero, ℕ, ◌<◌, ◌∷◌, ◌≡◌, AllByRecursion, ArePortsOf, DraftNode, GrowthForm, IsPlan, IsSourceSpec, JoinsSources, NodeForm, PartSpec, PlanJoin, PlanShape, SelectPlan, SortSpec, Span, Spec, by-forms, every-append, every-front, every-weaker, forms, body_nodes, collect_node, gather_nodes, lane_nodes, lane_steps, limit_nodes, node_form, plan_nodes, read_steps, same-spec, select_steps, shape_nodes, sort_nodes, source_nodes, ⊤, IsReady, IsStep, IsUngrown, KindGives, KnownPorts, SourceHas, IsKnown, every-moved, nodes_behind, moved_node, length, ◌++◌, ◌∙◌, ap, append_assoc, read-is, joint_node}
 use Rattle.query_model.specs.declared.processor_spec.Spec.TheVariants as spec
 use Rattle.plan_ends.proofs.GroupLaws.{merged-gives, partial-gives}
 use Rattle.plan_ends.proofs.JoinLaws.{join-gives}
@@ -44,8 +44,16 @@ known-ready P L n h = go n.spec refl h.0
         inr (record { list = list; is = e; takes = counts.0; gives = counts.1 })
     go s e ports = ordinary (subst IsUngrown (sym e) tt) ports
 
--- What is true of each node of a rank and with known ports that is no source's is true of those
--- behind what reads the tables.
+-- all nodes but the collector are the sources of FROM, and the steps behind their ends
+body-is : (p : SelectPlan)
+    → source_nodes 0 p.sources ++ select_steps (length p.sources) p ≡ body_nodes p
+body-is p =
+    sym (append_assoc (source_nodes 0 p.sources)
+    (read_steps (length p.sources) p.join p.lanes) (lane_steps p))
+    ∙ ap (λ l. l ++ lane_steps p) (read-is p.sources p.join p.lanes)
+
+-- What is true of each node of a rank and with known ports that is no source's, and stays true
+-- behind other ends, is true of a plan's nodes where it is of its sources.
 module _ (Q : DraftNode → Type 0)
     (step : (s : Spec) (rank offset takes gives : ℕ) → 0 < rank → KnownPorts s takes gives
     → SourceHas (λ part. ⊥) (λ list. ⊥) s → Q (record {
@@ -54,7 +62,8 @@ module _ (Q : DraftNode → Type 0)
       offset = offset;
       takes = takes;
       gives = gives;
-    })) where
+    }))
+    (moved' : (ends : ℕ) (node : DraftNode) → Q node → Q (moved_node ends 0 node)) where
   lanes-have : (s : Spec) (rank i lanes : ℕ) → 0 < rank → KnownPorts s 1 1
       → SourceHas (λ part. ⊥) (λ list. ⊥) s → AllByRecursion Q (lane_nodes s rank i lanes)
   lanes-have s rank i zero r h k = tt
@@ -77,9 +86,35 @@ module _ (Q : DraftNode → Type 0)
   pub lane-have : (p : SelectPlan) → AllByRecursion Q (lane_steps p)
   lane-have p = grind (arith, every-append, shape-have, limit-have, lanes-have)
 
-  plan-have : (p : SelectPlan) → AllByRecursion Q (read_nodes p.sources p.join p.lanes)
+  -- the resizes into the lanes
+  abbrev Resizes : SelectPlan → Type 0
+  Resizes p = (rank takes : ℕ) → 0 < rank → Q (joint_node spec.Resize rank takes p.lanes)
+
+  -- the steps behind so many open ends
+  pub select-have : (ends : ℕ) (p : SelectPlan) → Resizes p
+      → IfSome p.join (λ (j : PlanJoin). AllByRecursion Q (source_nodes 0 j.sources))
+      → AllByRecursion Q (select_steps ends p)
+  select-have ends p resizes second =
+      every-append Q (read_steps ends p.join p.lanes) (lane_steps p) (read p.join second)
+      (lane-have p)
+    where
+      read : (j : Option PlanJoin)
+          → IfSome j (λ (j : PlanJoin). AllByRecursion Q (source_nodes 0 j.sources))
+          → AllByRecursion Q (read_steps ends j p.lanes)
+      read None h = (resizes 2 ends (omega arith), tt)
+      read (Some j) h =
+          every-append Q (nodes_behind ends (source_nodes 0 j.sources)) _
+          (every-moved Q ends 0 (moved' ends) (source_nodes 0 j.sources) h)
+          (grind (arith, resizes 4 1 (omega arith)))
+
+  pub plan-have : (p : SelectPlan) → Resizes p → AllByRecursion Q (source_nodes 0 p.sources)
+      → IfSome p.join (λ (j : PlanJoin). AllByRecursion Q (source_nodes 0 j.sources))
       → AllByRecursion Q (plan_nodes p)
-  plan-have p read = grind (arith, every-append, shape-have, limit-have, lanes-have)
+  plan-have p resizes first second =
+      let all = every-append Q (source_nodes 0 p.sources) (select_steps (length p.sources) p) first
+      (select-have (length p.sources) p resizes second) in
+      every-append Q (body_nodes p) (collect_node ∷ [])
+      (rw (body-is p) at all) (grind arith)
 
 module _ (P L : PartSpec → Type 0) where
   abbrev Known : Spec → (takes gives : ℕ) → Type 0
@@ -111,14 +146,21 @@ module _ (P L : PartSpec → Type 0) where
   BothHave p = AllByRecursion (SourceHas P L) p.sources
       × IfSome p.join (λ (j : PlanJoin). AllByRecursion (SourceHas P L) j.sources)
 
+  joined-known : (j : Option PlanJoin) → JoinsSources j
+      → IfSome j (λ (j : PlanJoin). AllByRecursion (SourceHas P L) j.sources)
+      → IfSome j (λ (j : PlanJoin). AllByRecursion (IsStep P L) (source_nodes 0 j.sources))
+  joined-known None are more = tt
+  joined-known (Some j) are more = sources-known 0 j.sources are more
+
+  resizes-known : (p : SelectPlan) → 0 < p.lanes → (rank takes : ℕ) → 0 < rank
+      → IsStep P L (joint_node spec.Resize rank takes p.lanes)
+  resizes-known p some rank takes r = grind arith
+
   plan-known : (p : SelectPlan) → IsPlan p → BothHave p → AllByRecursion (IsStep P L) (plan_nodes p)
-  plan-known p is parts = plan-have (IsStep P L) of-step p (read p.join is.join parts.1)
-    where
-      read : (j : Option PlanJoin) → JoinsSources j
-          → IfSome j (λ (j : PlanJoin). AllByRecursion (SourceHas P L) j.sources)
-          → AllByRecursion (IsStep P L) (read_nodes p.sources j p.lanes)
-      read None are more = search (arith, every-append, sources-known)
-      read (Some j) are more = search (arith, every-append, sources-known)
+  plan-known p is parts =
+      plan-have (IsStep P L) of-step (λ ends node h. h) p (resizes-known p is.some_lanes)
+      (sources-known 0 p.sources is.sources parts.0)
+      (joined-known p.join is.join parts.1)
 
   -- all nodes but the collector
   pub body-known : (p : SelectPlan) → IsPlan p → BothHave p
@@ -131,14 +173,8 @@ module _ (P L : PartSpec → Type 0) where
       → IfSome p.join (λ (j : PlanJoin). AllByRecursion (SourceHas P L) j.sources)
       → AllByRecursion (IsStep P L) (select_steps ends p)
   select-known ends p some is parts =
-      every-append (IsStep P L) (read_steps ends p.join p.lanes) (lane_steps p)
-      (read p.join is parts) (lane-have (IsStep P L) of-step p)
-    where
-      read : (j : Option PlanJoin) → JoinsSources j
-          → IfSome j (λ (j : PlanJoin). AllByRecursion (SourceHas P L) j.sources)
-          → AllByRecursion (IsStep P L) (read_steps ends j p.lanes)
-      read None are more = search (arith)
-      read (Some j) are more = search (arith, every-append, sources-known)
+      select-have (IsStep P L) of-step (λ ends node h. h) ends p (resizes-known p some)
+      (joined-known p.join is parts)
 
   -- Each node of such a plan's graph is of a known kind, and what is true of the sources' parts is
   -- true of its part.
@@ -153,18 +189,17 @@ any-parts (spec.Csv part ∷ specs) = (tt, any-parts specs)
 any-parts (spec.List list ∷ specs) = (tt, any-parts specs)
 any-parts (s ∷ specs) = (tt, any-parts specs)
 
--- each node of a plan's graph is ready
-pub plan-ready : (p : SelectPlan) (nodes : List DraftNode) → IsPlan p
-    → forms nodes ≡ forms (plan_nodes p) → AllByRecursion IsReady nodes
-plan-ready p nodes is e =
-    every-weaker (IsStep (λ part. ⊤) (λ list. ⊤)) IsReady
-    (known-ready (λ part. ⊤) (λ list. ⊤)) nodes
-    (plan-steps (λ part. ⊤) (λ list. ⊤) p nodes is (any-parts p.sources, joined p.join) e)
-  where
-    joined : (j : Option PlanJoin)
-        → IfSome j (λ (j : PlanJoin). AllByRecursion (SourceHas (λ part. ⊤) (λ list. ⊤)) j.sources)
-    joined None = tt
-    joined (Some j) = any-parts j.sources
+pub any-joined : (j : Option PlanJoin)
+    → IfSome j (λ (j : PlanJoin). AllByRecursion (SourceHas (λ part. ⊤) (λ list. ⊤)) j.sources)
+any-joined None = tt
+any-joined (Some j) = any-parts j.sources
+
+-- nodes with the forms of nodes of known kinds are ready
+pub known-nodes : (nodes steps : List DraftNode) → forms nodes ≡ forms steps
+    → AllByRecursion IsKnown steps → AllByRecursion IsReady nodes
+known-nodes nodes steps e h =
+    every-weaker IsKnown IsReady (known-ready (λ part. ⊤) (λ list. ⊤)) nodes
+    (known-forms (λ part. ⊤) (λ list. ⊤) nodes steps e h)
 
 -- ---- ranks
 
@@ -183,8 +218,11 @@ plan-ranked p nodes e =
     (λ h. tt)
     (λ x y xs ys same rest h.
     (subst (λ (f : NodeForm). 0 < f.rank) (sym same) h.0, rest h.1)) nodes (plan_nodes p) e
-    (plan-have IsAboveSources (λ s rank offset takes gives r h none. r) p (read p.join))
+    (plan-have IsAboveSources (λ s rank offset takes gives r h none. r)
+    (λ ends node h. omega (arith, h)) p (λ rank takes r. r) (sources-ranked 0 p.sources)
+    (joined p.join))
   where
-    read : (j : Option PlanJoin) → AllByRecursion IsAboveSources (read_nodes p.sources j p.lanes)
-    read None = search (arith, every-append, sources-ranked)
-    read (Some j) = search (arith, every-append, sources-ranked)
+    joined : (j : Option PlanJoin)
+        → IfSome j (λ (j : PlanJoin). AllByRecursion IsAboveSources (source_nodes 0 j.sources))
+    joined None = tt
+    joined (Some j) = sources-ranked 0 j.sources

@@ -4,6 +4,9 @@ pub mod Pulled
 pub mod KindLaws
 pub mod Answers
 pub mod KnownKinds
+pub mod LaidPlans
+pub mod LaidEnds
+pub mod UnionPlans
 pub mod NodeKinds
 pub mod Flows
 pub mod Columns
@@ -18,4 +21,3 @@ pub mod SortLaws
 pub mod GroupLaws
 pub mod JoinLaws
 pub mod ShapeTypes
-pub mod PickTypes

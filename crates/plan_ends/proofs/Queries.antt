@@ -1,14 +1,15 @@
 -- At the end of a run of a query's plan the collector has an answer of the query, and its boxes
 -- pulled their flow.
-use Rattle.plan_ends.proofs.Imports.{Bool, IfSome, List, None, Option, Some, [], ap, arith, cond, flat_map, length, refl, slice_get, subst, suc, sym, true, ℕ, ◌+◌, ◌<◌, ◌∙◌, ◌∷◌, ◌≡◌, ◌⊎◌, All, AllByRecursion, AllTyped, AreKeyPairs, BoxPicture, Checked, CheckedJoin, ColumnType, Database, Declared, DraftNode, Files, HasCalls, IsAnswer, IsCut, IsPlan, IsPlanOf, IsSmall, IsSourceSpec, IsTypedFilter, IsTypedShape, JoinsSources, Kind, ListFile, NodePort, Numbers, OneType, PartSpec, RowsOfSources, PartsDecl, Paths, SourceReading, SelectPlan, SortKey, Spec, Stream, Table, TableDecl, TableUse, append-nil, boxes_for, chunk_rows, count_over, database, declared_sources, declared_table, flow, forms, get_or-map, get_or_past, join_of, join_pulls, join_spec, joined_table, length-map, none-of, of_kind, order_of, output_rows, part_paths, part_rows, part_sources, part_spec, path_sources, plan-needs, plan_keys, plan_nodes, plan_rows, plan_valid, plans-answer, pulled_rows, query-answers, read_rows, table_reading, rows_joined, same_kind, select_plan, shape-selects, shape_of, slice_get_cases, source_types, sources_rows, sum_by-cons, table_sources, types_declared, used_table, used_types, HasEnded, part_of, sources_of_files, stream_pulled_at, stream_pushed_at}
+use Rattle.plan_ends.proofs.Imports.{Bool, IfSome, List, None, Option, Some, [], ap, arith, cond, flat_map, length, refl, slice_get, subst, suc, sym, true, ℕ, ◌+◌, ◌<◌, ◌∙◌, ◌∷◌, ◌≡◌, ◌⊎◌, All, AllByRecursion, PlanMade, body-level, body_nodes, plan-block, plan-graph, AreKeyPairs, BoxPicture, Checked, CheckedJoin, ColumnType, Database, Declared, DraftNode, Files, HasCalls, IsAnswer, IsCut, IsPlanOf, IsSmall, IsSourceSpec, IsTypedFilter, IsTypedShape, JoinsSources, Kind, ListFile, NodePort, Numbers, OneType, PartSpec, RowsOfSources, PartsDecl, Paths, SourceReading, SelectPlan, SortKey, Spec, Stream, Table, TableDecl, TableUse, append-nil, boxes_for, chunk_rows, count_over, database, declared_sources, declared_table, flow, forms, get_or-map, get_or_past, join_of, join_pulls, join_spec, joined_table, length-map, none-of, of_kind, order_of, output_rows, part_paths, part_rows, part_sources, part_spec, path_sources, plan-needs, plan_keys, plan_nodes, plan_rows, plan_valid, pulled_rows, query-answers, read_rows, table_reading, rows_joined, same_kind, select_plan, shape-selects, shape_of, slice_get_cases, source_types, sources_rows, sum_by-cons, table_sources, types_declared, used_table, used_types, HasEnded, part_of, sources_of_files, stream_pulled_at, PlanAnswers, shape_types, query_boxes}
 use Rattle.query_model.specs.declared.processor_spec.Kind.TheVariants as kind
 use Rattle.query_model.specs.declared.processor_spec.Spec.TheVariants as spec
-use Rattle.plan_ends.proofs.Answers.{plan-run, PlanRun}
+use Rattle.plan_ends.proofs.Answers.{ListRun}
 use Rattle.plan_ends.proofs.Columns.{IsTypedSelect}
 use Rattle.plan_ends.proofs.Flows.{HasFlowed, collector-pulled, flow-pulled}
-use Rattle.plan_ends.proofs.KnownKinds.{plan-ready}
-use Rattle.plan_ends.proofs.ShapeTypes.{has-calls, shape_types}
-use Rattle.plan_ends.proofs.TypedPlans.{FitsOrdering, IsTypedJoin, plan-typed, read_types}
+use Rattle.plan_ends.proofs.LaidEnds.{laid-ended}
+use Rattle.plan_ends.proofs.LaidPlans.{IsQueryPlan, made_types, select-laid}
+use Rattle.plan_ends.proofs.ShapeTypes.{has-calls}
+use Rattle.plan_ends.proofs.TypedPlans.{FitsOrdering, IsTypedJoin, read_types}
 
 -- ---- tables
 
@@ -125,7 +126,8 @@ module _ (q : Checked) (tables : List TableDecl) (lanes rows : ℕ) (header : Bo
         → IsPlanOf q db (sources_of_files files) (select_plan q tables lanes rows header)
     plan-of calls = search (arith, types-read, kept, rows-read)
       where
-        kept : (keys : List SortKey) → plan_keys (order_of q.types rows keys) ≡ keys
+        kept : (keys : List SortKey) → plan_keys (order_of
+            (shape_types q.shape (source_types tables q.from q.join)) rows keys) ≡ keys
         kept [] = refl
         kept (key ∷ keys) = refl
 
@@ -135,11 +137,7 @@ none-kept : (nodes : List DraftNode)
 none-kept [] = refl
 none-kept (z ∷ nodes) = grind (arith, sum_by-cons, boxes_for, none-of, none-kept nodes)
 
--- The plan of a typed query reads from sources, and its nodes' types fit.
-pub record IsQueryPlan (p : SelectPlan) : Type 0 where
-  pub is : IsPlan p
-  pub typed : AllTyped (plan_nodes p) []
-
+-- The plan of a typed query reads from sources, and its nodes fit their types.
 pub query-plan : (q : Checked) (tables : List TableDecl) (lanes rows : ℕ) (header : Bool)
     → IsTypedSelect tables q → 0 < lanes → IsQueryPlan (select_plan q tables lanes rows header)
 query-plan q tables lanes rows header typed some =
@@ -152,12 +150,19 @@ query-plan q tables lanes rows header typed some =
         sources = are-sources q.from;
         join = joined q.join;
       };
-      typed = plan-typed plan q.shape u rows (ap (λ t. shape_of q.shape t rows) read)
-          (of-types q.from) (join-typed q.join typed.pairs)
-          (subst (λ t. IsTypedFilter t q.filter) read typed.typed.filter)
-          (subst (λ t. IsTypedShape t q.shape) read typed.typed.items)
-          (order-fits (shape_types q.shape (read_types u plan.join)) q.order
-          (typed.made ∙ ap (shape_types q.shape) read) typed.keys);
+      shape = q.shape;
+      types = u;
+      rows = rows;
+      typed = record {
+        shape = ap (λ t. shape_of q.shape t rows) read;
+        join = join-typed q.join typed.pairs;
+        filter = subst (λ t. IsTypedFilter t q.filter) read typed.typed.filter;
+        typed = subst (λ t. IsTypedShape t q.shape) read typed.typed.items;
+        order = subst (λ t. FitsOrdering (shape_types q.shape t) plan.order) read
+            (order-fits (shape_types q.shape (source_types tables q.from q.join)) q.order
+            typed.keys);
+      };
+      sources = of-types q.from;
     }
   where
     are-sources : (t : TableUse) → AllByRecursion IsSourceSpec (table_sources tables header rows t)
@@ -188,27 +193,27 @@ query-plan q tables lanes rows header typed some =
     join-typed None pairs = tt
     join-typed (Some j) pairs = search (arith, of-types)
 
-    order-fits : (v : List ColumnType) (keys : List SortKey) → q.types ≡ v
-        → All (λ (key : SortKey). key.column < length q.types) keys
-        → FitsOrdering v (order_of q.types rows keys)
-    order-fits v [] e within = tt
-    order-fits v (key ∷ keys) e within = record { types_are = sym e; keys_within = within }
+    order-fits : (v : List ColumnType) (keys : List SortKey)
+        → All (λ (key : SortKey). key.column < length v) keys
+        → FitsOrdering v (order_of v rows keys)
+    order-fits v [] within = tt
+    order-fits v (key ∷ keys) within = record { types_are = refl; keys_within = within }
 
 -- What the collector pulled is an answer of the query, over the rows before the first bad record of
--- each part, with the plan's clause on bad parts. Without LIMIT the nodes pulled their kinds'
--- flows.
+-- each part, with the plan's clause on bad parts. Without LIMIT the nodes of each kind that was
+-- taken pulled its flow.
 pub record QueryAnswered (q : Checked) (header : Bool) (files : Files) (tables : List TableDecl)
-    (plan : SelectPlan) (nodes : List DraftNode) (boxes : List BoxPicture)
+    (lanes : ℕ) (plan : SelectPlan) (nodes : List DraftNode) (boxes : List BoxPicture)
     (h : HasEnded files nodes boxes) (last : ℕ) : Type 0 where
   pub answer : IsAnswer q (database header files tables) (chunk_rows (h.done.pulled last 0))
   pub output : plan_rows (sources_of_files files) plan
       ≡ output_rows q (database header files tables)
   pub valid : (plan_valid (sources_of_files files) plan ≡ true)
       ⊎ IsCut (sources_of_files files) plan
-  pub run : PlanRun files plan nodes boxes h last
+  pub run : ListRun files (plan_nodes plan) nodes boxes h last
   pub collected : pulled_rows kind.Collect 0 nodes (stream_pulled_at boxes h.done.pulled)
       ≡ length (chunk_rows (h.done.pulled last 0))
-  pub pulled : q.limit ≡ None → (k : Kind)
+  pub pulled : q.limit ≡ None → (k : Kind) → 0 < query_boxes q tables lanes k
       → IfSome (flow k q (database header files tables) (chunk_rows (h.done.pulled last 0)))
       (λ n. pulled_rows k 0 nodes (stream_pulled_at boxes h.done.pulled) ≡ n)
 
@@ -220,8 +225,8 @@ pub planned-ended : (q : Checked) (tables : List TableDecl) (lanes rows : ℕ) (
     → IsSmall (select_plan q tables lanes rows header)
     → forms nodes ≡ forms (plan_nodes (select_plan q tables lanes rows header))
     → length (plan_nodes (select_plan q tables lanes rows header)) ≡ last + 1
-    → QueryAnswered q header files tables (select_plan q tables lanes rows header) nodes boxes h
-    last
+    → QueryAnswered q header files tables lanes (select_plan q tables lanes rows header) nodes
+    boxes h last
 planned-ended q tables lanes rows header files nodes boxes h last typed some small e count =
     let plan : SelectPlan = select_plan q tables lanes rows header in
     let db : Database = database header files tables in
@@ -229,26 +234,40 @@ planned-ended q tables lanes rows header files nodes boxes h last typed some sma
     plan-of q tables lanes rows header files
     (has-calls (source_types tables q.from q.join) q.shape typed.typed.items) in
     let ready : IsQueryPlan plan = query-plan q tables lanes rows header typed some in
+    let parts : RowsOfSources = sources_of_files files in
+    let level = body-level plan small in
+    let ended = laid-ended files (body_nodes plan) 14 level.rank (made_types plan ready)
+    (PlanMade parts plan) (select-laid parts plan ready small) level.low nodes e boxes h last
+    (plan-graph plan nodes small e).graph count in
     let f : NodePort → Stream = stream_pulled_at boxes h.done.pulled in
-    let r = plan-run files plan nodes boxes h last small e ready.typed (plan-ready plan nodes
-    ready.is e) count in
-    let a = plans-answer (sources_of_files files) plan f (stream_pushed_at boxes h.done.pushed)
-    ready.is small
-    r.run last count r.collected.done in
+    let made = ended.made in
+    let front = ended.collected.front in
+    let done = ended.run.collected.done in
+    let answers : PlanAnswers parts plan (chunk_rows (h.done.pulled last 0)) = record {
+      answer = record {
+        ordered = made.ordered;
+        same_rows = made.same;
+        in_order = made.in_order;
+        is = front.all done ∙ made.is;
+      };
+      valid = made.valid (front.certain done);
+    } in
+    let block = plan-block parts plan ready.is in
+    let counts = (block.run [] (ended.collected.flow ∷ []) refl ended.collected.means).1 in
     let flowed : HasFlowed plan (sources_of_files files) nodes f last = record {
       same = e;
       count = count;
       one_collector = search (arith, none-kept, plan-needs);
-      pulled = λ k unlimited told. a.1 unlimited k told;
+      pulled = λ k unlimited told.
+          ended.collected.counted (block.all_open unlimited) done k ∙ counts unlimited k told;
     } in
     record {
-      answer = query-answers q db (sources_of_files files) plan (chunk_rows (h.done.pulled last 0))
-          is a.0;
+      answer = query-answers q db parts plan (chunk_rows (h.done.pulled last 0)) is answers;
       output = grind (arith, shape-selects);
-      valid = a.0.valid;
-      run = r;
+      valid = answers.valid;
+      run = ended.run;
       collected = collector-pulled plan (sources_of_files files) nodes f last flowed;
-      pulled = λ unlimited k. flow-pulled plan (sources_of_files files) nodes f last flowed
-          unlimited q db is (λ k. join-pulled q tables lanes rows header files k q.join) q.types
-          rows refl k;
+      pulled = λ unlimited k taken. flow-pulled plan (sources_of_files files) nodes f last flowed
+          unlimited q db is (λ k. join-pulled q tables lanes rows header files k q.join)
+          (shape_types q.shape (source_types tables q.from q.join)) rows refl k;
     }

@@ -1,16 +1,7 @@
--- The types of the rows that a query's shape makes, and of the columns and arguments of its groups.
-use Rattle.plan_ends.proofs.Imports.{List, None, Option, Some, StateCall, [], ap, false, length, map, refl, slice_index_or, sums_texts, ℕ, ◌<◌, ◌∷◌, ◌≡◌, AggCall, AggOp, All, All-cons, All-head, All-nil, All-tail, AllByRecursion, ColumnType, Expr, Grouped, HasCalls, IsCall, IsItem, IsTypedArgument, IsTypedCall, IsTypedShape, Plain, Shape, argument_types, call_arguments, column_items, group_row_types, state_call, type_of}
-use Rattle.chunk_data.specs.declared.typed_value.ColumnType.TheVariants as column
+-- The types of the columns and arguments of a query's groups.
+use Rattle.plan_ends.proofs.Imports.{List, None, Option, Some, StateCall, [], ap, false, length, map, refl, sums_texts, ℕ, ◌<◌, ◌∷◌, ◌≡◌, AggCall, AggOp, All, All-cons, All-head, All-nil, All-tail, AllByRecursion, ColumnType, Expr, Grouped, HasCalls, IsCall, IsItem, IsTypedArgument, IsTypedCall, IsTypedShape, Plain, Shape, argument_types, call_arguments, column_items, state_call, type_of, type_at}
 use Rattle.query_model.specs.declared.query.AggOp.TheVariants as agg
 use Rattle.query_model.specs.declared.query.ExprOf.TheVariants as expr
-
-abbrev pub type_at : List ColumnType → ℕ → ColumnType
-type_at types c = slice_index_or types c column.Text
-
--- the types of the rows that a shape makes of rows of these types
-abbrev pub shape_types : Shape → List ColumnType → List ColumnType
-shape_types (Plain items) types = map (λ e. type_of e types) items
-shape_types (Grouped g) types = map (type_at (group_row_types g types)) g.picks
 
 -- ---- calls
 

@@ -162,6 +162,10 @@ SourceHas P L _ = ⊤
 abbrev pub IsStep : (P L : PartSpec → Type 0) → DraftNode → Type 0
 IsStep P L n = KnownPorts n.spec n.takes n.gives × SourceHas P L n.spec
 
+-- a node of a known kind
+abbrev pub IsKnown : DraftNode → Type 0
+IsKnown n = IsStep (λ part. ⊤) (λ list. ⊤) n
+
 -- ---- lists that grew
 
 -- The node that was born for a list's part, with an edge from its output to input i of the list.

@@ -2,7 +2,9 @@
 //!
 //! `specs/Ended.antt` reads the streams off the boxes and lists of an ended run.
 //! `proofs/KindLaws.antt` and `proofs/ResizeLaws.antt` say, a kind at a time, that the processor
-//! contract gives the kind's promises. `plan-ended` of `proofs/Answers.antt` is the law for whole
-//! plans, and `query-ended` of `proofs/Queries.antt` the law for the plan of a typed query over
-//! declared tables. `proofs/KnownKinds.antt` meets their premise on kinds for every such plan.
+//! contract gives the kind's promises. `proofs/LaidPlans.antt` has lists of nodes that are laid
+//! down over open ends, one behind another, behind other ends and with higher ranks; a SELECT is
+//! one, and so is a union of two (`proofs/UnionPlans.antt`). `laid-ended` of `proofs/LaidEnds.antt`
+//! is the law for all of them, and `planned-ended` of `proofs/Queries.antt` that for the plan of a
+//! typed query.
 #![tactic(auto)]

@@ -5,3 +5,4 @@ pub mod Drafts
 pub mod Fitting
 pub mod GraphLaws
 pub mod Building
+pub mod Frames

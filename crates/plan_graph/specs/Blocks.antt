@@ -1,5 +1,5 @@
 -- Blocks of nodes that plans are made of.
-use Rattle.std.specs.Prelude.{ℕ, zero, suc, List, [], ◌∷◌}
+use Rattle.std.specs.Prelude.{List, [], map, suc, zero, ℕ, ◌+◌, ◌∷◌}
 use Rattle.query_model.specs.declared.processor_spec.Spec.{Spec}
 use Rattle.plan_graph.specs.declared.nodes.DraftNode.{DraftNode}
 
@@ -24,3 +24,26 @@ joint_node s rank takes gives = record {
   takes = takes;
   gives = gives;
 }
+
+-- ---- blocks among others
+
+-- the node behind so many other open ends, with a rank that is higher by a number
+abbrev pub moved_node : (ends rank : ℕ) → DraftNode → DraftNode
+moved_node ends rank node = record {
+  spec = node.spec;
+  rank = rank + node.rank;
+  offset = ends + node.offset;
+  takes = node.takes;
+  gives = node.gives;
+}
+
+abbrev pub moved_nodes : (ends rank : ℕ) → List DraftNode → List DraftNode
+moved_nodes ends rank nodes = map (moved_node ends rank) nodes
+
+-- the nodes behind so many other open ends
+abbrev pub nodes_behind : ℕ → List DraftNode → List DraftNode
+nodes_behind ends nodes = moved_nodes ends 0 nodes
+
+-- the nodes with ranks that are higher by this number
+abbrev pub nodes_raised : ℕ → List DraftNode → List DraftNode
+nodes_raised rank nodes = moved_nodes 0 rank nodes

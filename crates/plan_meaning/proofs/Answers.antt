@@ -1,11 +1,9 @@
 -- What the last node of a plan has, all of whose input is done, is an answer.
-use Rattle.plan_meaning.proofs.Imports.{All, List, None, [], ap, arith, get_or, length, map, refl, subst, suc, sym, true, ℕ, ◌++◌, ◌+◌, ◌∙◌, ◌∷◌, ◌≡◌, AllByRecursion, AllZip, AllInputsDone, Completes, Draft, DraftNode, FitsBlock, Fitted, Flow, IsOpenNode, Kind, Levels, NodesMean, NodePort, PlanRuns, Wire, all-back, all-front, and_from, consumer_of, fits, length-append, length-map, meant_by, no_draft, producer_of, pulled_by_nodes, ranks-count, taken_by, wires_to, with-append, with_node, with_nodes, AllPull, EachGives, HasRun, Pulls, pulled_rows, IsFront, RowsOfSources, Stream, IsPlan, IsSmall, IsTold, PlanAnswers, SelectPlan, body_nodes, collector, plan_nodes, plan_pulls}
+use Rattle.plan_meaning.proofs.Imports.{All, List, [], arith, length, map, refl, subst, suc, sym, true, ℕ, ◌++◌, ◌+◌, ◌∙◌, ◌∷◌, ◌≡◌, AllByRecursion, AllZip, AllInputsDone, Completes, Draft, DraftNode, FitsBlock, Fitted, Flow, IsOpenNode, Kind, NodesMean, NodePort, PlanRuns, Wire, all-back, all-front, and_from, consumer_of, fits, length-append, length-map, meant_by, no_draft, producer_of, pulled_by_nodes, ranks-count, taken_by, wires_to, with-append, with_node, with_nodes, AllPull, EachGives, HasRun, Pulls, pulled_rows, IsFront, RowsOfSources, Stream, collector}
 use Rattle.plan_meaning.proofs.Runs.{RunsOf, runs}
 use Rattle.plan_meaning.proofs.Completing.{all-inputs-done, completes}
-use Rattle.plan_meaning.proofs.Fitting.{body-level}
 use Rattle.plan_meaning.proofs.Fronts.{pulled-front}
-use Rattle.plan_meaning.proofs.Blocks.{Alone, only-one}
-use Rattle.plan_meaning.proofs.Plans.{PlanMade, plan-block}
+use Rattle.plan_meaning.proofs.Blocks.{only-one}
 
 gives-front : (parts : RowsOfSources) (pulled pushed : NodePort → Stream) (n : ℕ)
     (xs ys : List DraftNode) → EachGives parts n (xs ++ ys) pulled pushed
@@ -116,47 +114,3 @@ collector_gathers parts nodes rank pulled pushed leaves run last count =
           (and_from _ _ (b.pulls.finished done) refl) in
           sym (b.body.counted k) ∙ one.counted both.inputs k;
     }
-
--- What the collector pulled is an answer. Where there is no limit, the nodes of each kind that is
--- told of pulled as many rows as the plan says.
-pub body-answer : (parts : RowsOfSources) (p : SelectPlan) (rank : ℕ)
-    (pulled pushed : NodePort → Stream) → IsPlan p → IsSmall p
-    → HasRun parts (body_nodes p ++ collector rank ∷ []) pulled pushed
-    → (last : ℕ) → length (body_nodes p ++ collector rank ∷ []) ≡ last + 1
-    → (pulled (record { node = last; port = 0 })).done ≡ true
-    → PlanAnswers parts p (pulled (record { node = last; port = 0 })).rows
-    × (p.limit ≡ None → (k : Kind) → IsTold k
-    → pulled_rows k 0 (body_nodes p) pulled ≡ plan_pulls k parts p)
-body-answer parts p rank pulled pushed is small run last count done =
-    let level : Levels (body_nodes p) [] 1 14 = body-level p small in
-    let c = collector_gathers parts (body_nodes p) rank pulled pushed
-    (record { rank = level.rank; block = level.block }) run last count in
-    let block = plan-block parts p is in
-    let means = block.run [] (c.flow ∷ []) refl c.means in
-    let made = the-one c.flow means.0 in (
-      record {
-        answer = record {
-          ordered = made.ordered;
-          same_rows = made.same;
-          in_order = made.in_order;
-          is = c.front.all done ∙ made.is;
-        };
-        valid = made.valid (c.front.certain done);
-      },
-      λ unlimited k told. c.counted (block.all_open unlimited) done k
-          ∙ means.1 unlimited k told,
-    )
-  where
-    the-one : (f : Flow) → Alone (PlanMade parts p) (f ∷ []) → PlanMade parts p f
-    the-one f a = subst (PlanMade parts p) (sym (ap (λ l. get_or l 0 f) a.are)) a.has
-
--- the same of the plan, whose collector has the last step's rank
-pub plans-answer : (parts : RowsOfSources) (p : SelectPlan) (pulled pushed : NodePort → Stream)
-    → IsPlan p → IsSmall p → HasRun parts (plan_nodes p) pulled pushed
-    → (last : ℕ) → length (plan_nodes p) ≡ last + 1
-    → (pulled (record { node = last; port = 0 })).done ≡ true
-    → PlanAnswers parts p (pulled (record { node = last; port = 0 })).rows
-    × (p.limit ≡ None → (k : Kind) → IsTold k
-    → pulled_rows k 0 (body_nodes p) pulled ≡ plan_pulls k parts p)
-plans-answer parts p pulled pushed is small run last count done =
-    body-answer parts p 14 pulled pushed is small run last count done

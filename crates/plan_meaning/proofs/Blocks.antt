@@ -1,6 +1,6 @@
 -- The meaning of blocks of nodes, one behind the other, and how many rows the nodes of a kind pull.
-use Rattle.std.proofs.lemmas.Grind.{common_steps}
-use Rattle.plan_meaning.proofs.Imports.{Bool, IsPermutation, List, [], ap, ap₂, arith, cond, inl, inr, length, refl, subst, suc, sym, true, zero, ℕ, ◌++◌, ◌+◌, ◌<◌, ◌∙◌, ◌∷◌, ◌≡◌, AllByRecursion, AllZip, AllZip-long, DraftNode, IsPermutation-append, IsPermutation-refl, IsPermutation-same, IsPermutation-trans, Kind, Row, Spec, and_from, and_parts, append-nil, append_assoc, every-append, joint_node, lane_nodes, length-append, length-map, length_permutation, or_cases, replaced-at, run-at, source_nodes, taken_by, Flow, RowsOfSources, all_certain, rows_together, any_needs, flow_rows, flows_of, IsNoLimit, IsOpenNode, IsSourceSpec, IsTold, MakesRows, NodesMean, MeansNode, all_valid, if_kind, is_certain, is_needed, is_valid_source, meant_by, pulls, source_list, sources_rows}
+use Rattle.plan_meaning.proofs.Imports.{Bool, IsPermutation, List, [], ap, ap₂, arith, cond, inl, inr, length, refl, subst, suc, sym, true, zero, ℕ, ◌++◌, ◌+◌, ◌<◌, ◌∙◌, ◌∷◌, ◌≡◌, AllByRecursion, AllZip, AllZip-long, DraftNode, IsPermutation-append, IsPermutation-refl, IsPermutation-same, IsPermutation-trans, Kind, Row, Spec, and_from, and_parts, append-nil, append_assoc, every-append, joint_node, lane_nodes, moved_nodes, nodes_raised, length-append, length-map, length_permutation, or_cases, replaced-at, run-at, source_nodes, taken_by, Flow, RowsOfSources, all_certain, rows_together, any_needs, flow_rows, flows_of, IsNoLimit, IsOpenNode, IsSourceSpec, IsTold, MakesRows, NodesMean, MeansNode, all_valid, if_kind, is_certain, is_needed, is_valid_source, meant_by, pulls, source_list, sources_rows}
+use Rattle.plan_meaning.proofs.Frames.{every-moved, means-moved}
 use Rattle.query_model.specs.declared.processor_spec.Spec.TheVariants as spec
 
 -- ---- nodes
@@ -186,12 +186,14 @@ pub record Both (P Q : List Flow → Type 0) (flows : List Flow) : Type 0 where
   pub first : P front
   pub second : Q back
 
--- what is before flows, of which P is true, where nothing is before them
-pub alone-from : (P : List Flow → Type 0) (l : List Flow) → P l → Both (λ x. x ≡ []) P l
-alone-from P l p = record { front = []; back = l; are = refl; first = refl; second = p }
+-- nothing is behind flows of which P is true
+pub none-behind : (P : List Flow → Type 0) (l : List Flow) → P l → Both P (λ x. x ≡ []) l
+none-behind P l p =
+    record { front = l; back = []; are = sym (append-nil l); first = p; second = refl }
 
-pub alone-to : (P : List Flow → Type 0) (l : List Flow) → Both (λ x. x ≡ []) P l → P l
-alone-to P l b = subst P (sym (b.are ∙ ap (λ x. x ++ b.back) b.first)) b.second
+pub all-before : (P : List Flow → Type 0) (l : List Flow) → Both P (λ x. x ≡ []) l → P l
+all-before P l b =
+    subst P (sym (b.are ∙ ap (λ x. b.front ++ x) b.second ∙ append-nil b.front)) b.first
 
 -- ---- marks
 
@@ -246,6 +248,14 @@ module _ {parts : RowsOfSources} {unlimited : Type 0} where
     all_open = f.all_open;
   }
 
+  -- where nothing is said of what is pulled
+  pub block-unpulled : {nodes : List DraftNode} {P Q : List Flow → Type 0} {a : Kind → ℕ}
+      → Block parts unlimited nodes P Q a → Block parts ⊥ nodes P Q (λ k. 0)
+  block-unpulled f = record {
+    run = λ before after p m. ((f.run before after p m).0, λ u. absurd u);
+    all_open = λ u. absurd u;
+  }
+
   pub no-block : {P Q : List Flow → Type 0} → ((l : List Flow) → P l → Q l)
       → Block parts unlimited [] P Q (λ k. 0)
   no-block {P} {Q} to = search (arith)
@@ -267,47 +277,52 @@ module _ {parts : RowsOfSources} {unlimited : Type 0} where
     all_open = λ u. open-lanes s rank 0 lanes limit;
   }
 
-  -- sources behind other flows
-  pub sources-block : (specs : List Spec) (i : ℕ) (P : List Flow → Type 0)
-      → AllByRecursion IsSourceSpec specs → ((l : List Flow) → P l → length l ≡ i)
-      → Block parts unlimited (source_nodes i specs) P
-      (Both P (Spread (length specs) (sources_rows parts specs) (all_valid parts specs) true))
-      (λ k. 0)
-  sources-block specs i P sources front = record {
+  -- nodes behind so many flows, of which P is true
+  pub block-moved : {nodes : List DraftNode} {Q R : List Flow → Type 0} {n : Kind → ℕ}
+      (ends rank : ℕ) (P : List Flow → Type 0) → ((l : List Flow) → P l → length l ≡ ends)
+      → Block parts unlimited nodes Q R n
+      → Block parts unlimited (moved_nodes ends rank nodes) (Both P Q) (Both P R) n
+  block-moved {nodes} ends rank P front f = record {
     run = λ before after p m.
-        let made = sources-mean parts specs i before before after refl (front before p) sources
-        m in (
+        let made = means-moved parts ends rank nodes p.front p.back before after p.are
+        (front p.front p.first) m in
+        let one = f.run p.back made.flows p.second made.means in (
           record {
-            front = before;
+            front = p.front;
             back = made.flows;
             are = made.are;
-            first = p;
-            second = record {
-              count = made.count;
-              same = made.same;
-              certain = made.certain;
-              needs = λ e. refl;
-            };
+            first = p.first;
+            second = one.0;
+          },
+          λ u k t. made.pulled k ∙ one.1 u k t,
+        );
+    all_open = λ u. every-moved IsOpenNode ends rank (λ node h. h) nodes (f.all_open u);
+  }
+
+  -- nodes with higher ranks
+  pub block-raised : {nodes : List DraftNode} {Q R : List Flow → Type 0} {n : Kind → ℕ} (rank : ℕ)
+      → Block parts unlimited nodes Q R n → Block parts unlimited (nodes_raised rank nodes) Q R n
+  block-raised {nodes} {Q} {R} rank f =
+      block-so (λ l q. record { front = []; back = l; are = refl; first = refl; second = q })
+      (λ l b. subst R (sym (b.are ∙ ap (λ x. x ++ b.back) b.first)) b.second) (λ k. refl)
+      (block-moved 0 rank (λ l. l ≡ []) (λ l e. ap length e) f)
+
+  pub sources-block : (specs : List Spec) → AllByRecursion IsSourceSpec specs
+      → Block parts unlimited (source_nodes 0 specs) (λ l. l ≡ [])
+      (Spread (length specs) (sources_rows parts specs) (all_valid parts specs) true) (λ k. 0)
+  sources-block specs sources = record {
+    run = λ before after none m.
+        let made = sources-mean parts specs 0 [] before after none refl sources m in (
+          record {
+            count = ap (λ l. length l) made.are ∙ made.count;
+            same = rw made.are made.same;
+            certain = rw made.are made.certain;
+            needs = λ e. refl;
           },
           λ u k t. made.pulled k,
         );
-    all_open = λ u. open-sources specs i sources;
+    all_open = λ u. open-sources specs 0 sources;
   }
-
-  -- a node that takes all flows but the first
-  pub node-block : (node : DraftNode) (P Q R : List Flow → Type 0) (n : Kind → ℕ)
-      → (unlimited → IsNoLimit node.spec) → 0 < node.gives
-      → ((l : List Flow) → P l → length l ≡ node.offset)
-      → ((l : List Flow) → Q l → length l ≡ node.takes)
-      → ((t : List Flow) (outs : List (List Row)) → Q t
-      → MakesRows parts node.spec (flow_rows t) outs
-      → length outs ≡ node.gives
-      → R (flows_of (is_certain parts node.spec t) (is_needed parts node.spec t) outs))
-      → ((k : Kind) (t : List Flow) → unlimited → IsTold k → Q t
-      → pulls k node.spec (length (rows_together (flow_rows t))) ≡ n k)
-      → Block parts unlimited (node ∷ []) (Both P Q) (Both P R) n
-  node-block node P Q R n limit some front takes step pulled =
-      grind (arith, common_steps, node-at, append-nil)
 
   -- a node that takes the first flows
   node-first : (node : DraftNode) (P Q R : List Flow → Type 0) (n : Kind → ℕ)
@@ -338,6 +353,18 @@ module _ {parts : RowsOfSources} {unlimited : Type 0} where
     all_open = λ u. ((some, limit u), tt);
   }
 
+  -- a node that takes all flows
+  all-block : (s : Spec) (rank m g : ℕ) (P R : List Flow → Type 0) (n : Kind → ℕ)
+      → (unlimited → IsNoLimit s) → 0 < g → ((l : List Flow) → P l → length l ≡ m)
+      → ((t : List Flow) (outs : List (List Row)) → P t → MakesRows parts s (flow_rows t) outs
+      → length outs ≡ g → R (flows_of (is_certain parts s t) (is_needed parts s t) outs))
+      → ((k : Kind) (t : List Flow) → unlimited → IsTold k → P t
+      → pulls k s (length (rows_together (flow_rows t))) ≡ n k)
+      → Block parts unlimited (joint_node s rank m g ∷ []) P R n
+  all-block s rank m g P R n limit some takes step pulled =
+      block-so (none-behind P) (all-before R) (λ k. refl)
+      (node-first (joint_node s rank m g) P (λ l. l ≡ []) R n limit some refl takes step pulled)
+
   -- a node that takes all flows, and has one output
   pub joint-block : (s : Spec) (rank m : ℕ) (P : List Flow → Type 0) (Q : Flow → Type 0)
       (n : Kind → ℕ)
@@ -348,9 +375,7 @@ module _ {parts : RowsOfSources} {unlimited : Type 0} where
       → pulls k s (length (rows_together (flow_rows t))) ≡ n k)
       → Block parts unlimited (joint_node s rank m 1 ∷ []) P (Alone Q) n
   joint-block s rank m P Q n limit takes step pulled =
-      block-so (alone-from P) (alone-to (Alone Q)) (λ k. refl)
-      (node-block (joint_node s rank m 1) (λ l. l ≡ []) P (Alone Q) n limit (omega arith)
-      (λ l e. ap length e) takes
+      all-block s rank m 1 P (Alone Q) n limit (omega arith) takes
       (λ t outs p makes count.
       let one = only-one (λ l. MakesRows parts s (flow_rows t) l) outs count makes in
       let f : Flow = flow_made parts s t one.0 in
@@ -358,7 +383,7 @@ module _ {parts : RowsOfSources} {unlimited : Type 0} where
         value = f;
         are = ap (flows_of f.certain f.needs) one.1;
         has = step t one.0 p one.2;
-      }) pulled)
+      }) pulled
 
   -- a node that takes all flows, which have a form, and has one output
   pub form-block : {A : Type 0} (s : Spec) (rank m : ℕ) (form : A → List Flow) (P : A → Type 0)
@@ -370,29 +395,6 @@ module _ {parts : RowsOfSources} {unlimited : Type 0} where
       → pulls k s (length (rows_together (flow_rows (form a)))) ≡ n k)
       → Block parts unlimited (joint_node s rank m 1 ∷ []) (Form form P) (Alone Q) n
   form-block s rank m form P Q n limit takes step pulled = search (arith, joint-block)
-
-  -- a resize of all flows but the first
-  pub resize-behind : (rank i m n : ℕ) (P : List Flow → Type 0) (rows : List Row) (c d : Bool)
-      → 0 < n → ((l : List Flow) → P l → length l ≡ i)
-      → Block parts unlimited (record {
-        spec = spec.Resize;
-        rank = rank;
-        offset = i;
-        takes = m;
-        gives = n;
-      } ∷ [])
-      (Both P (Spread m rows c d)) (Both P (Spread n rows c d)) (λ k. 0)
-  resize-behind rank i m n P rows c d some front =
-      search (
-        arith,
-        node-block,
-        length-map,
-        IsPermutation-trans,
-        IsPermutation-same,
-        rows-marked,
-        certain-marked,
-        needs-marked,
-      )
 
   -- a resize of the first flows
   pub resize-first : (rank m n : ℕ) (Q : List Flow → Type 0) (rows : List Row) (c d : Bool)
@@ -416,5 +418,5 @@ module _ {parts : RowsOfSources} {unlimited : Type 0} where
       (Spread n rows c d)
       (λ k. 0)
   resize-block rank m n rows c d some =
-      block-so (alone-from (Spread m rows c d)) (alone-to (Spread n rows c d)) (λ k. refl)
-      (resize-behind rank 0 m n (λ l. l ≡ []) rows c d some (λ l e. ap length e))
+      block-so (none-behind (Spread m rows c d)) (all-before (Spread n rows c d)) (λ k. refl)
+      (resize-first rank m n (λ l. l ≡ []) rows c d some)

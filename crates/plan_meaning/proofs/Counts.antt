@@ -1,5 +1,5 @@
 -- A plan's nodes counted step by step: their number, their inputs, those of a kind.
-use Rattle.plan_meaning.proofs.Imports.{List, None, Option, Some, [], ap, arith, length, refl, suc, sum_by, zero, ℕ, ◌*◌, ◌++◌, ◌+◌, ◌∷◌, ◌≡◌, ◌≤◌, AllFitDraft, Cond, Draft, DraftNode, NodePort, SortSpec, Span, Spec, lane_nodes, length-append, run-length, source_nodes, sum_by-append, sum_by-cons, wires_to, with_node, with_nodes, PlanShape, plain, grouped, PlanJoin, SelectPlan, filter_nodes, limit_nodes, read_nodes, gather_nodes, sort_nodes, shape_nodes, plan_nodes, IsSmall, Count, count_over, each_kept, kept_for, each_input, sources_count, read_count, filter_count, gather_count, sort_count, shape_count, limit_count, plan_count}
+use Rattle.plan_meaning.proofs.Imports.{List, None, Option, Some, [], ap, arith, length, moved_nodes, refl, suc, sum_by, zero, ℕ, ◌*◌, ◌++◌, ◌+◌, ◌∷◌, ◌≡◌, ◌≤◌, AllFitDraft, Cond, Draft, DraftNode, NodePort, SortSpec, Span, Spec, lane_nodes, length-append, run-length, source_nodes, sum_by-append, sum_by-cons, wires_to, with_node, with_nodes, PlanShape, plain, grouped, PlanJoin, SelectPlan, filter_nodes, limit_nodes, read_nodes, gather_nodes, sort_nodes, shape_nodes, plan_nodes, IsSmall, Count, count_over, each_kept, kept_for, each_input, sources_count, read_count, filter_count, gather_count, sort_count, shape_count, limit_count, plan_count}
 
 -- ---- step by step
 
@@ -23,11 +23,18 @@ sources-counted w i [] = refl
 sources-counted w i (s ∷ specs) =
     search (arith, counted-cons, sum_by-cons, sources-counted w (suc i) specs)
 
+-- nodes behind others count the same
+moved-counted : (w : Count) (ends rank : ℕ) (nodes : List DraftNode)
+    → count_over w (moved_nodes ends rank nodes) ≡ count_over w nodes
+moved-counted w ends rank [] = refl
+moved-counted w ends rank (node ∷ nodes) =
+    search (arith, counted-cons, moved-counted w ends rank nodes)
+
 read-counted : (w : Count) (sources : List Spec) (join : Option PlanJoin) (lanes : ℕ)
     → count_over w (read_nodes sources join lanes) ≡ read_count w sources join
 read-counted w sources None lanes = search (arith, counted-append, counted-cons, sources-counted)
 read-counted w sources (Some j) lanes =
-    simp (counted-append, counted-cons, sources-counted) (omega arith)
+    simp (counted-append, counted-cons, moved-counted, sources-counted) (omega arith)
 
 pub filter-counted : (w : Count) (f : Option Cond) (rank n : ℕ)
     → count_over w (filter_nodes f rank n) ≡ filter_count w f n
@@ -87,7 +94,7 @@ sources-kept (s ∷ specs) = search (arith, sum_by-cons, sources-kept specs)
 
 pub no-inputs : (specs : List Spec) → sources_count each_input specs ≡ 0
 no-inputs [] = refl
-no-inputs (s ∷ specs) = search (arith, sum_by-cons, no-inputs specs)
+no-inputs (s ∷ specs) = search (arith, no-inputs specs)
 
 pub few-filters : (f : Option Cond) (lanes : ℕ) → (filter_count each_kept f lanes ≤ lanes)
     × (filter_count each_input f lanes ≤ lanes)

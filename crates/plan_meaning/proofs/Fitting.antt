@@ -1,26 +1,12 @@
 -- Each plan with few parts and lanes fits.
 use Rattle.std.proofs.lemmas.Grind.{common_steps}
-use Rattle.plan_meaning.proofs.Imports.{List, None, Option, Some, [], arith, length, refl, replicate, ℕ, ◌++◌, ◌<◌, ◌∷◌, ◌≡◌, ◌≤◌, AllFitEnds, Cond, FitsBlock, Levels, SortSpec, Span, Spec, all-front', append-nil, block-append, joint-fit, joint_node, joint-level, lanes-level, length-replicate, level-append, ranks_after, replaced-at, run-at, same-ranks, source_nodes, sources-fit, stay-level, subst}
-use Rattle.plan_meaning.specs.Plans.{FewJoined, FewSources, IsSmall, PlanJoin, PlanShape, SelectPlan, body_nodes, filter_nodes, gather_nodes, grouped, lane_steps, limit_nodes, plain, plan_nodes, read_nodes, read_steps, second_resize, select_steps, shape_nodes, sort_nodes, join_step, sort_step, merge_step}
+use Rattle.plan_meaning.proofs.Imports.{List, None, Option, Some, [], arith, length, refl, replicate, ℕ, ◌++◌, ◌<◌, ◌∷◌, ◌≡◌, ◌≤◌, AllFitEnds, Cond, FitsBlock, Levels, SortSpec, Span, Spec, all-front', append-nil, block-append, fits-behind, joint-fit, joint_node, joint-level, lanes-level, length-replicate, level-append, ranks_after, replaced-at, run-at, same-ranks, source_nodes, sources-fit, stay-level, subst}
+use Rattle.plan_meaning.specs.Plans.{FewJoined, FewSources, IsSmall, PlanJoin, PlanShape, SelectPlan, body_nodes, filter_nodes, gather_nodes, grouped, lane_steps, limit_nodes, plain, plan_nodes, read_nodes, read_steps, select_steps, shape_nodes, sort_nodes, join_step, sort_step, merge_step}
 use Rattle.query_model.specs.declared.processor_spec.Spec.TheVariants as spec
 
 filter-level : (f : Option Cond) (q n r t : ℕ) → r < q → q < t
     → Levels (filter_nodes f q n) (replicate n r) n t
 filter-level f q n r t low high = grind (arith, stay-level, lanes-level)
-
-join-fit : (j : PlanJoin) → FewSources j.sources
-    → FitsBlock (second_resize (length j.sources) ∷ []) (2 ∷ replicate (length j.sources) 1)
-    (2 ∷ 2 ∷ [])
-join-fit j fj = grind (
-  arith,
-  common_steps,
-  append-nil,
-  length-replicate,
-  all-front',
-  same-ranks,
-  run-at,
-  replaced-at,
-)
 
 -- a resize of the first of the open ends
 first-fit : (ends m r : ℕ) → r < 2 → ends ≤ 32
@@ -45,9 +31,14 @@ read-steps-level ends (Some j) lanes r low few fj fl = record {
   rank = 4;
   low = omega arith;
   block =
-      block-append (sources-fit j.sources ends (replicate ends r) (length-replicate ends r))
+      block-append
+      (rw (append-nil (replicate ends r)) at (fits-behind ends (replicate ends r)
+      (length-replicate ends r) (sources-fit j.sources 0 [] refl)))
       (block-append (first-fit ends (length j.sources) r low few)
-      (block-append (join-fit j fj)
+      (block-append
+      (fits-behind 1 (2 ∷ []) refl (joint-fit spec.Resize 2 (length j.sources) 1
+      (replicate (length j.sources) 1) (length-replicate (length j.sources) 1)
+      (same-ranks (length j.sources) 1 2 (omega arith)) fj.few (omega arith)))
       (block-append
       (joint-fit (join_step j) 3 2 1 (2 ∷ 2 ∷ []) refl (same-ranks 2 2 3 (omega arith))
       (omega arith) (omega arith))

@@ -4,6 +4,7 @@ pub mod Fronts
 pub mod KindLaws
 pub mod Completing
 pub mod Runs
+pub mod Frames
 pub mod Blocks
 pub mod Plans
 pub mod Fitting

@@ -1,6 +1,6 @@
 -- The meaning of a plan is the answer of its query.
-use Rattle.plan_meaning.proofs.Imports.{Bool, IsPermutation, IsSorted, List, None, Option, Some, [], ap, ap₂, arith, cond, false, filter, flat_map, inl, inr, length, map, refl, subst, suc, sym, true, zero, ℕ, ◌&&◌, ◌++◌, ◌+◌, ◌<◌, ◌||◌, ◌∙◌, ◌∷◌, ◌≡◌, ◌⊎◌, AggCall, AllByRecursion, AllZip, Cond, Expr, GroupSpec, IsPermutation-append, IsPermutation-filter, IsPermutation-joined_rows, IsPermutation-map, IsPermutation-same, IsPermutation-trans, Row, SortKey, SortSpec, Span, Spec, StateCall, and_from, and_parts, append-nil, both_ways, combine_of, count_up, filter-append, groups_or_default, holds, item_row, joined_rows, joint_node, lane_nodes, leb-true, length-append, length-map, length_permutation, limited, list_all, map-append, merged_groups, merged_in_any_order, or_cases, or_left, or_right, row_cmp, rows_where, source_nodes, Flow, RowsOfSources, all_certain, rows_together, any_needs, flow_rows, IsNoLimit, IsPlan, IsSourceSpec, JoinsSources, PlanJoin, PlanShape, SelectPlan, StopsEarly, all_valid, body_nodes, filter_nodes, filter_pulls, gather_nodes, gather_pulls, grouped, grouped_of, join_pulls, join_valid, joined_from, lane_steps, limit_nodes, made_pulls, made_rows, needed_valid, plain, plan_keys, plan_pulls, plan_valid, pulls, pulls_from, read_nodes, read_rows, read_steps, read_valid, select_steps, shape_nodes, shape_pulls, shape_rows, sort_nodes, sort_pulls, sources_rows, valid_from, calls_from, merged_rows, partial_rows, MakesRows, is_certain, is_needed, join_step, sort_step, merge_step}
-use Rattle.plan_meaning.proofs.Blocks.{Alone, Block, Both, Form, LaneMade, Spread, alone-to, block-so, block-then, form-block, joint-block, lanes-block, no-block, resize-behind, resize-block, resize-first, sources-block}
+use Rattle.plan_meaning.proofs.Imports.{Bool, IsPermutation, IsSorted, List, None, Option, Some, [], ap, ap₂, arith, cond, false, filter, flat_map, inl, inr, length, map, refl, subst, suc, sym, true, zero, ℕ, ◌&&◌, ◌++◌, ◌+◌, ◌<◌, ◌||◌, ◌∙◌, ◌∷◌, ◌≡◌, ◌⊎◌, AggCall, AllByRecursion, AllZip, Cond, Expr, GroupSpec, IsPermutation-append, IsPermutation-filter, IsPermutation-joined_rows, IsPermutation-map, IsPermutation-same, IsPermutation-trans, Row, SortKey, SortSpec, Span, Spec, StateCall, and_from, and_parts, append-nil, both_ways, combine_of, count_up, filter-append, groups_or_default, holds, item_row, joined_rows, joint_node, lane_nodes, leb-true, length-append, length-map, length_permutation, limited, list_all, map-append, merged_groups, merged_in_any_order, or_cases, or_left, or_right, row_cmp, rows_where, Flow, RowsOfSources, all_certain, rows_together, any_needs, flow_rows, IsNoLimit, IsPlan, IsSourceSpec, JoinsSources, PlanJoin, PlanShape, SelectPlan, StopsEarly, all_valid, body_nodes, filter_nodes, filter_pulls, gather_nodes, gather_pulls, grouped, grouped_of, join_pulls, join_valid, joined_from, lane_steps, limit_nodes, made_pulls, made_rows, needed_valid, plain, plan_keys, plan_pulls, plan_valid, pulls, pulls_from, read_nodes, read_rows, read_steps, read_valid, select_steps, shape_nodes, shape_pulls, shape_rows, sort_nodes, sort_pulls, sources_rows, valid_from, calls_from, merged_rows, partial_rows, MakesRows, is_certain, is_needed, join_step, sort_step, merge_step}
+use Rattle.plan_meaning.proofs.Blocks.{Alone, Block, Both, Form, LaneMade, Spread, block-moved, block-so, block-then, form-block, joint-block, lanes-block, no-block, none-behind, resize-block, resize-first, sources-block}
 use Rattle.plan_meaning.proofs.Fitting.{read-is}
 use Rattle.query_model.specs.declared.processor_spec.Spec.TheVariants as spec
 
@@ -180,15 +180,6 @@ module _ {parts : RowsOfSources} {unlimited : Type 0} where
       (map-append (item_row items)) (IsPermutation-map (item_row items)) (λ i o e. e) (λ l. refl)
       (λ l. refl) rows c n
 
-  first-sources : (sources : List Spec) → AllByRecursion IsSourceSpec sources
-      → Block parts unlimited (source_nodes 0 sources) (λ l. l ≡ [])
-      (Spread (length sources) (sources_rows parts sources) (all_valid parts sources) true)
-      (λ k. 0)
-  first-sources sources is = block-so (λ l e. e)
-      (alone-to (Spread (length sources) (sources_rows parts sources)
-      (all_valid parts sources) true)) (λ k. refl)
-      (sources-block sources 0 (λ l. l ≡ []) is (λ l e. ap length e))
-
   -- open ends with the rows of FROM, joined with the second table where there is one
   read-steps-block : (ends : ℕ) (join : Option PlanJoin) (lanes : ℕ) → 0 < lanes
       → JoinsSources join → (left : List Row) (v : Bool)
@@ -202,10 +193,13 @@ module _ {parts : RowsOfSources} {unlimited : Type 0} where
       let m : ℕ = length j.sources in
       let rows : List Row = joined_rows j.join.pairs left right in
       block-so (λ l e. e) (λ l h. h) (λ k. omega arith)
-      (block-then (sources-block j.sources ends (Spread ends left v true) js (λ l h. h.count))
+      (block-then
+      (block-so (none-behind (Spread ends left v true)) (λ l h. h) (λ k. refl)
+      (block-moved ends 0 (Spread ends left v true) (λ l h. h.count) (sources-block j.sources js)))
       (block-then (resize-first 2 ends 1 (Spread m right w true) left v true (omega arith))
       (block-then
-      (resize-behind 2 1 m 1 (Spread 1 left v true) right w true (omega arith) (λ l h. h.count))
+      (block-moved 1 0 (Spread 1 left v true) (λ l h. h.count)
+      (resize-block 2 m 1 right w true (omega arith)))
       (block-then
       (block-so (λ l b. two-flows b) (one-spread rows (v && w) w) (λ k. refl)
       (form-block (join_step j) 3 2 (λ (p : Flow × Flow). p.0 ∷ p.1 ∷ [])
@@ -246,7 +240,7 @@ module _ {parts : RowsOfSources} {unlimited : Type 0} where
       (Spread lanes (read_rows parts sources join) (read_valid parts sources join)
       (join_valid parts join)) (λ k. join_pulls k parts sources join)) (read-is sources join lanes)
       (block-so (λ l e. e) (λ l h. h) (λ k. omega arith)
-      (block-then (first-sources sources is)
+      (block-then (sources-block sources is)
       (read-steps-block (length sources) join lanes some js (sources_rows parts sources)
       (all_valid parts sources))))
 

@@ -1,6 +1,6 @@
 -- Where the types at the open ends fit each node, each chunk that a run pulled fits, and so each
 -- node gives what its kind promises.
-use Rattle.plan_meaning.proofs.Imports.{Any, List, [], arith, length, map, replicate, subst, suc, sym, ℕ, ◌++◌, ◌∷◌, ◌≡◌, length-map, AllByRecursion, AllFitDraft, AllZip, Draft, DraftNode, NodePort, Spec, every-append, every-front, every-weaker, given-map, given_by, ports-length, ports_of, taken-map, taken_by, with_node, with_nodes, AllTyped, EachGivesIf, FitFrom, HasTypes, MakesType, Types, TypesFit, TypesNode, TypesTo, pulled_types, RowsOfSources, Stream, AllPull, EachGives, Pulls}
+use Rattle.plan_meaning.proofs.Imports.{Any, List, [], ap, arith, length, map, replicate, subst, suc, sym, ℕ, ◌++◌, ◌∷◌, ◌≡◌, given-moved, length-map, moved_nodes, taken-moved, AllByRecursion, IsAmong, AllFitDraft, AllZip, Draft, DraftNode, NodePort, Spec, every-append, every-front, every-weaker, given-map, given_by, ports-length, ports_of, taken-map, taken_by, with_node, with_nodes, EachGivesIf, FitFrom, HasTypes, MakesType, Types, TypesFit, TypesNode, TypesTo, pulled_types, RowsOfSources, Stream, AllPull, EachGives, Pulls}
 use Rattle.plan_meaning.proofs.Runs.{next-node, node-pulls}
 use Rattle.plan_meaning.proofs.Zips.{zip-chain, zip-given, zip-taken}
 
@@ -34,13 +34,13 @@ made-typed s ins made outs n e f h = grind arith
 -- Where the types at the open ends fit each node, each node gives what its kind promises.
 pub each-typed : (parts : RowsOfSources) (pulled pushed : NodePort → Stream)
     (nodes : List DraftNode)
-    (d : Draft) (types : List Types) → AllFitDraft nodes d
-    → AllZip HasTypes (map pushed d.ends) types → AllTyped nodes types
+    (d : Draft) (types after : List Types) → AllFitDraft nodes d
+    → AllZip HasTypes (map pushed d.ends) types → TypesTo nodes types after
     → EachGivesIf parts (length d.ranks) nodes pulled pushed
     → AllPull pulled pushed (with_nodes nodes d).wires
     → EachGives parts (length d.ranks) nodes pulled pushed
-each-typed parts pulled pushed [] d types f z t g w = tt
-each-typed parts pulled pushed (node ∷ nodes) d types f z t g w =
+each-typed parts pulled pushed [] d types last f z t g w = tt
+each-typed parts pulled pushed (node ∷ nodes) d types last f z t g w =
     let n : ℕ = length d.ranks in
     let ins : List Stream = map pulled (ports_of n 0 node.takes) in
     let ports : List NodePort = ports_of n 0 node.gives in
@@ -61,20 +61,48 @@ each-typed parts pulled pushed (node ∷ nodes) d types f z t g w =
     let next : length (d.ranks ++ node.rank ∷ []) ≡ suc n = next-node node d in (
       g.0.gives fit,
       rw next at (each-typed parts pulled pushed nodes (with_node node d)
-          (given_by node (replicate node.gives here.made) types) f.1 after t.1
+          (given_by node (replicate node.gives here.made) types) last f.1 after t.1
           (subst (λ k. EachGivesIf parts k nodes pulled pushed) (sym next) g.1) w),
     )
 
--- ---- lists of nodes
+-- ---- blocks
 
--- a list of nodes behind another
-pub typed-append : (xs ys : List DraftNode) (a b c : List Types) → TypesTo xs a b → TypesTo ys b c
+-- a block whose nodes the types of the open ends fit, and that leaves ends of those types
+pub record Typed (nodes : List DraftNode) (before after : List Types) : Type 0 where
+  pub types : TypesTo nodes before after
+
+types-append : (xs ys : List DraftNode) (a b c : List Types) → TypesTo xs a b → TypesTo ys b c
     → TypesTo (xs ++ ys) a c
-typed-append [] ys a b c f g = subst (λ l. TypesTo ys l c) f g
-typed-append (x ∷ xs) ys a b c f g =
-    (f.0, typed-append xs ys (given_by x (replicate x.gives f.0.made) a) b c f.1 g)
+types-append [] ys a b c f g = subst (λ l. TypesTo ys l c) f g
+types-append (x ∷ xs) ys a b c f g =
+    (f.0, types-append xs ys (given_by x (replicate x.gives f.0.made) a) b c f.1 g)
 
-pub typed-all : (nodes : List DraftNode) (a b : List Types) → TypesTo nodes a b → AllTyped nodes a
-typed-all [] a b f = tt
-typed-all (node ∷ nodes) a b f =
-    (f.0, typed-all nodes (given_by node (replicate node.gives f.0.made) a) b f.1)
+pub typed-then : {xs ys : List DraftNode} {a b c : List Types} → Typed xs a b → Typed ys b c
+    → Typed (xs ++ ys) a c
+typed-then {xs} {ys} {a} {b} {c} f g =
+    record { types = types-append xs ys a b c f.types g.types }
+
+types-moved : (ends rank : ℕ) (nodes : List DraftNode) (done a b : List Types)
+    → length done ≡ ends → TypesTo nodes a b
+    → TypesTo (moved_nodes ends rank nodes) (done ++ a) (done ++ b)
+types-moved ends rank [] done a b e f = ap (λ l. done ++ l) f
+types-moved ends rank (node ∷ nodes) done a b e f =
+    let taken = sym (taken-moved ends rank node done a e) in
+    let new : List Types = replicate node.gives f.0.made in (
+      record {
+        fit = subst (TypesFit node.spec 0) taken f.0.fit;
+        made = f.0.made;
+        makes = λ t us all m.
+            f.0.makes t us (subst (λ l. AllByRecursion (IsAmong l) us) (sym taken) all) m;
+      },
+      subst (λ l. TypesTo (moved_nodes ends rank nodes) l (done ++ b))
+          (sym (given-moved ends rank node new done a e))
+          (types-moved ends rank nodes done (given_by node new a) b e f.1),
+    )
+
+-- a block behind other ends
+pub typed-moved : {nodes : List DraftNode} {a b : List Types} (ends rank : ℕ) (done : List Types)
+    → length done ≡ ends → Typed nodes a b
+    → Typed (moved_nodes ends rank nodes) (done ++ a) (done ++ b)
+typed-moved {nodes} {a} {b} ends rank done e f =
+    record { types = types-moved ends rank nodes done a b e f.types }

@@ -1,6 +1,6 @@
 -- The plan of a query as a list of nodes, and what it answers.
 use Rattle.std.specs.Prelude.{Bool, List, None, Option, Some, [], cond, false, flat_map, length, map, sum_by, true, ℕ, ⊤, ◌&&◌, ◌++◌, ◌+◌, ◌<◌, ◌∷◌, ◌≡◌, ◌≤◌, ◌⊎◌}
-use Rattle.plan_meaning.specs.Prelude.{AllByRecursion, Cond, DraftNode, Expr, GroupSpec, IsOrderedAnswer, JoinSpec, Kind, Row, SortKey, SortSpec, Span, Spec, default_states, enough, groups_or_default, item_row, joined_rows, joint_node, kind_of, lane_nodes, list_all, partial_rows, rows_where, same_kind, source_nodes}
+use Rattle.plan_meaning.specs.Prelude.{AllByRecursion, Cond, DraftNode, Expr, GroupSpec, IsOrderedAnswer, JoinSpec, Kind, Row, SortKey, SortSpec, Span, Spec, nodes_behind, default_states, enough, groups_or_default, item_row, joined_rows, joint_node, kind_of, lane_nodes, list_all, partial_rows, rows_where, same_kind, source_nodes}
 use Rattle.plan_meaning.specs.Roles.{IsSourceSpec, is_valid_source, source_list}
 use Rattle.plan_meaning.specs.Streams.{RowsOfSources}
 use Rattle.query_model.specs.declared.processor_spec.Kind.TheVariants as kind
@@ -46,23 +46,18 @@ sort_step order = spec.Sort order
 abbrev pub merge_step : SortSpec → Spec
 merge_step order = spec.MergeSorted order
 
--- a resize of the second table's sources to one end, behind that of FROM
-abbrev pub second_resize : ℕ → DraftNode
-second_resize sources =
-    record { spec = spec.Resize; rank = 2; offset = 1; takes = sources; gives = 1 }
-
 -- From so many open ends with the rows of FROM to the lanes, joined with the second table where
 -- there is one, whose sources come first. The ends are those of a table's sources, or the one end
--- of a subquery.
+-- of a subquery; the second table's nodes stand behind them.
 abbrev pub read_steps : ℕ → Option PlanJoin → ℕ → List DraftNode
 read_steps ends None lanes = joint_node spec.Resize 2 ends lanes ∷ []
 read_steps ends (Some j) lanes =
-    source_nodes ends j.sources
+    nodes_behind ends (source_nodes 0 j.sources)
     ++ (joint_node spec.Resize 2 ends 1
-    ∷ second_resize (length j.sources)
-    ∷ joint_node (join_step j) 3 2 1
+    ∷ (nodes_behind 1 (joint_node spec.Resize 2 (length j.sources) 1 ∷ [])
+    ++ (joint_node (join_step j) 3 2 1
     ∷ joint_node spec.Resize 4 1 lanes
-    ∷ [])
+    ∷ [])))
 
 -- by cases, so that it stays folded where the join isn't known
 abbrev pub read_nodes : List Spec → Option PlanJoin → ℕ → List DraftNode

@@ -47,12 +47,6 @@ pub record TypesNode (node : DraftNode) (before : List Types) : Type 0 where
   pub makes : (t : Types) (ins : List Types) → AllByRecursion (IsAmong (taken_by node before)) ins
       → MakesType node.spec ins t → t ≡ made
 
--- the types fit each node in turn
-abbrev pub AllTyped : List DraftNode → List Types → Type 0
-AllTyped [] before = ⊤
-AllTyped (node ∷ nodes) before = (t : TypesNode node before)
-    × AllTyped nodes (given_by node (replicate node.gives t.made) before)
-
 -- the types fit each node in turn, and leave those
 abbrev pub TypesTo : List DraftNode → List Types → List Types → Type 0
 TypesTo [] before after = after ≡ before

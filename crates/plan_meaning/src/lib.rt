@@ -5,6 +5,6 @@
 //! input. Every ended run of a list of nodes extends to such a whole run (`completes` of
 //! `proofs/Completing.antt`), so that a limit costs no second composition.
 //! `specs/Plans.antt` has the nodes of a SELECT's plan, step by step, and what they answer;
-//! `plans-answer` of `proofs/Answers.antt` is the law, and `query-answers` of
+//! `collector_gathers` of `proofs/Answers.antt` is the law, and `query-answers` of
 //! `proofs/Queries.antt` ties it to the query.
 #![tactic(auto)]

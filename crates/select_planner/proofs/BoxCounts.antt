@@ -1,6 +1,6 @@
 -- The boxes of a kind that a query's plan uses are as many as the query needs.
 use Rattle.std.proofs.lemmas.Grind.{common_steps}
-use Rattle.select_planner.proofs.Imports.{Checked, CheckedJoin, ColumnType, Cond, Count, Declared, DraftNode, Grouped, Kind, Numbers, PartsDecl, Plain, Shape, SortKey, Span, TableDecl, TableUse, append-nil, append_assoc, count_by-le-length, count_over, each_kept, filter_count, gather_count, if_declared, if_filtered, if_limited, if_ordered, if_unordered, kind_of, length-take-le, limit_count, list_sources_need, query_boxes, none-of, of_kind, part_sources_need, plan-counted, plan_count, plan_nodes, same_kind, sort_count, sources_count, sum_by-append, sum_by-cons, sum_by-replicate, sum_by-take-le, sum_by_more, table_need, take_more, Bool, List, None, Option, Some, [], ap, arith, cond, false, get_or, length, refl, replicate, slice_get, suc, sum_by, sym, take, true, ℕ, ◌*◌, ◌++◌, ◌+◌, ◌<◌, ◌∙◌, ◌∷◌, ◌≡◌, ◌≤◌, PlanReserve, reserved_nodes, boxes_reserved, boxes_taken, PlanNode, kept_at, reserves_from, SourceReading, declared_sources, order_of, part_sources, path_sources, select_plan, table_sources}
+use Rattle.select_planner.proofs.Imports.{Checked, CheckedJoin, ColumnType, Cond, Count, Declared, DraftNode, Grouped, Kind, Numbers, PartsDecl, Plain, Shape, SortKey, Span, TableDecl, TableUse, append-nil, append_assoc, count_by-le-length, count_over, each_kept, filter_count, gather_count, if_declared, if_filtered, if_limited, if_ordered, if_unordered, kind_of, length-take-le, limit_count, list_sources_need, query_boxes, none-of, of_kind, part_sources_need, plan-counted, plan_count, plan_nodes, same_kind, sort_count, sources_count, sum_by-append, sum_by-cons, sum_by-replicate, sum_by-take-le, sum_by_more, table_need, take_more, Bool, List, None, Option, Some, [], ap, arith, cond, false, get_or, length, refl, replicate, slice_get, suc, sum_by, sym, take, true, ℕ, ◌*◌, ◌++◌, ◌+◌, ◌<◌, ◌∙◌, ◌∷◌, ◌≡◌, ◌≤◌, PlanReserve, reserved_nodes, boxes_reserved, boxes_taken, PlanNode, kept_at, reserves_from, SourceReading, declared_sources, order_of, ordered_plan, part_sources, path_sources, select_plan, shape_types, source_types, table_sources}
 use Rattle.query_model.specs.declared.processor_spec.Kind.TheVariants as kind
 
 -- so many where the kind is this one
@@ -71,10 +71,12 @@ sort-need k types rows keys = grind (arith, none-of)
 none-ordered : (keys : List SortKey) → if_ordered keys 0 ≡ 0
 none-ordered keys = grind arith
 
-plan-need : (q : Checked) (tables : List TableDecl) (lanes rows : ℕ) (header : Bool) (k : Kind)
-    → plan_count (boxes_for k) (select_plan q tables lanes rows header)
+-- whatever types its order has
+plan-need : (q : Checked) (tables : List TableDecl) (lanes rows : ℕ) (header : Bool)
+    (types : List ColumnType) (k : Kind)
+    → plan_count (boxes_for k) (ordered_plan q tables lanes rows header types)
     ≡ query_boxes q tables lanes k
-plan-need q tables lanes rows header k = go k q.shape q.join refl refl
+plan-need q tables lanes rows header types k = go k q.shape q.join refl refl
   where
     from : (k : Kind) → sources_count (boxes_for k) (table_sources tables header rows q.from)
         ≡ only k kind.Csv (table_need part_sources_need 0 tables q.from)
@@ -83,50 +85,50 @@ plan-need q tables lanes rows header k = go k q.shape q.join refl refl
     from k = sources-need k tables header rows q.from
 
     go : (k : Kind) (s : Shape) (j : Option CheckedJoin) → q.shape ≡ s → q.join ≡ j
-        → plan_count (boxes_for k) (select_plan q tables lanes rows header)
+        → plan_count (boxes_for k) (ordered_plan q tables lanes rows header types)
         ≡ query_boxes q tables lanes k
     go kind.Limit (Plain items) None is at =
         let read = from kind.Limit in let filter = filter-need kind.Limit q.filter lanes in
         let limit = limit-need kind.Limit q.limit in
-        let gather = gather-need kind.Limit q.types rows lanes q.order in
+        let gather = gather-need kind.Limit types rows lanes q.order in
         simp (is, at, sum_by-cons) (omega arith)
     go kind.Limit (Plain items) (Some j) is at =
         let read = from kind.Limit in let filter = filter-need kind.Limit q.filter lanes in
         let limit = limit-need kind.Limit q.limit in
-        let gather = gather-need kind.Limit q.types rows lanes q.order in
+        let gather = gather-need kind.Limit types rows lanes q.order in
         let join = sources-need kind.Limit tables header rows j.table in
         simp (is, at, sum_by-cons) (omega arith)
     go kind.Limit (Grouped g) None is at =
         let read = from kind.Limit in let filter = filter-need kind.Limit q.filter lanes in
         let limit = limit-need kind.Limit q.limit in
         let having = filter-need kind.Limit g.having 1 in
-        let sort = sort-need kind.Limit q.types rows q.order in let merge = none-ordered q.order in
+        let sort = sort-need kind.Limit types rows q.order in let merge = none-ordered q.order in
         simp (is, at, sum_by-cons) (omega arith)
     go kind.Limit (Grouped g) (Some j) is at =
         let read = from kind.Limit in let filter = filter-need kind.Limit q.filter lanes in
         let limit = limit-need kind.Limit q.limit in
         let having = filter-need kind.Limit g.having 1 in
-        let sort = sort-need kind.Limit q.types rows q.order in let merge = none-ordered q.order in
+        let sort = sort-need kind.Limit types rows q.order in let merge = none-ordered q.order in
         let join = sources-need kind.Limit tables header rows j.table in
         simp (is, at, sum_by-cons) (omega arith)
     go k (Plain items) None is at =
         let read = from k in let filter = filter-need k q.filter lanes in
-        let limit = limit-need k q.limit in let gather = gather-need k q.types rows lanes q.order in
+        let limit = limit-need k q.limit in let gather = gather-need k types rows lanes q.order in
         simp (is, at, sum_by-cons) (omega arith)
     go k (Plain items) (Some j) is at =
         let read = from k in let filter = filter-need k q.filter lanes in
-        let limit = limit-need k q.limit in let gather = gather-need k q.types rows lanes q.order in
+        let limit = limit-need k q.limit in let gather = gather-need k types rows lanes q.order in
         let join = sources-need k tables header rows j.table in
         simp (is, at, sum_by-cons) (omega arith)
     go k (Grouped g) None is at =
         let read = from k in let filter = filter-need k q.filter lanes in
         let limit = limit-need k q.limit in let having = filter-need k g.having 1 in
-        let sort = sort-need k q.types rows q.order in let merge = none-ordered q.order in
+        let sort = sort-need k types rows q.order in let merge = none-ordered q.order in
         simp (is, at, sum_by-cons) (omega arith)
     go k (Grouped g) (Some j) is at =
         let read = from k in let filter = filter-need k q.filter lanes in
         let limit = limit-need k q.limit in let having = filter-need k g.having 1 in
-        let sort = sort-need k q.types rows q.order in let merge = none-ordered q.order in
+        let sort = sort-need k types rows q.order in let merge = none-ordered q.order in
         let join = sources-need k tables header rows j.table in
         simp (is, at, sum_by-cons) (omega arith)
 
@@ -134,7 +136,10 @@ plan-need q tables lanes rows header k = go k q.shape q.join refl refl
 pub plan-needs : (q : Checked) (tables : List TableDecl) (lanes rows : ℕ) (header : Bool) (k : Kind)
     → count_over (boxes_for k) (plan_nodes (select_plan q tables lanes rows header))
     ≡ query_boxes q tables lanes k
-plan-needs q tables lanes rows header k = search (arith, plan-counted, plan-need)
+plan-needs q tables lanes rows header k =
+    plan-counted (boxes_for k) (select_plan q tables lanes rows header)
+    ∙ plan-need q tables lanes rows header
+    (shape_types q.shape (source_types tables q.from q.join)) k
 
 -- ---- what is kept
 

@@ -3,7 +3,7 @@ pub use Rattle.select_planner.specs.Boxes.{reserved_nodes}
 pub use Rattle.select_planner.specs.Counts.{boxes_needed, boxes_reserved, boxes_taken}
 pub use Rattle.select_planner.specs.Refusals.{NamedPaths, crowded, crowded_decl, first_crowded, or_else, path_count}
 pub use Rattle.select_planner.specs.Shapes.{IsSoundPlan, LaysDown, kept_at, plan_node_of, plan_ranks, reserves_from}
-pub use Rattle.select_planner.specs.Steps.{SourceReading, declared_sources, join_of, order_of, part_sources, part_spec, path_sources, select_plan, table_reading, table_sources}
+pub use Rattle.select_planner.specs.Steps.{SourceReading, declared_sources, join_of, order_of, ordered_plan, part_sources, part_spec, path_sources, select_plan, source_types, table_reading, table_sources}
 pub use Rattle.select_planner.specs.declared.nodes.Plan.{Plan}
 pub use Rattle.select_planner.specs.declared.nodes.PlanNode.{PlanNode}
 pub use Rattle.select_planner.specs.declared.nodes.PlanReserve.{PlanReserve}
@@ -12,8 +12,8 @@ pub use Rattle.plan_meaning.proofs.Blocks.{none-of}
 pub use Rattle.plan_meaning.proofs.Counts.{plan-counted}
 pub use Rattle.plan_meaning.proofs.PlanGraphs.{counted-same, plan-graph}
 pub use Rattle.plan_meaning.proofs.Same.{kind-same}
-pub use Rattle.plan_meaning.proofs.Imports.{AggCall, Draft, Expr, Span, formula, joint_node, lane_nodes, map-map, source_nodes, sum_by-map, with_node}
-pub use Rattle.plan_meaning.specs.Names.{Count, FewJoined, FewSources, IsSmall, NodeForm, call_arguments, column_items, count_over, each_kept, filter_count, filter_nodes, gather_count, group_spec, kept_for, limit_count, node_form, of_kind, plan_count, plan_nodes, sort_count, sort_nodes, sources_count, state_call, with_argument}
+pub use Rattle.plan_meaning.proofs.Imports.{AggCall, Draft, nodes_behind, Expr, Span, formula, joint_node, lane_nodes, map-map, source_nodes, sum_by-map, with_node}
+pub use Rattle.plan_meaning.specs.Names.{Count, FewJoined, FewSources, IsSmall, NodeForm, call_arguments, column_items, count_over, each_kept, filter_count, filter_nodes, gather_count, group_spec, kept_for, limit_count, node_form, of_kind, plan_count, plan_nodes, sort_count, sort_nodes, shape_types, sources_count, state_call, with_argument}
 pub use Rattle.proc_api.specs.Forms.{expression, filter, spec_form, unboxed}
 pub use Rattle.query_model.specs.Names.{Cond, if_declared, if_filtered, if_limited, if_ordered, if_unordered, join_use, list_sources_need, part_sources_need, table_need}
 pub use Rattle.query_model.specs.declared.query.ColumnDecl.{ColumnDecl}

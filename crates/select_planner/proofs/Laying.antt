@@ -1,6 +1,6 @@
 -- The steps of a plan, laid down one behind another.
 use Rattle.std.proofs.lemmas.Grind.{common_steps}
-use Rattle.select_planner.proofs.Imports.{Bool, List, None, Some, [], ap, arith, false, get_or, length, map, nat_lt, refl, slice_get, suc, sum_by, sym, take, zero, ℕ, ◌++◌, ◌+◌, ◌<◌, ◌∙◌, ◌∷◌, ◌≡◌, ◌≤◌, AggCall, Checked, Declared, DraftNode, Expr, FewSources, IsSmall, PartSpec, PartsDecl, Paths, Spec, TableDecl, TableUse, append_assoc, call_arguments, column_items, formula, forms, kept_for, lane_nodes, length-take-le, map-append, nat_tests, plan_nodes, source_nodes, spec_form, sum_by-cons, take_more, used_tables, with_argument, path_count, crowded_decl, crowded, first_crowded, SourceReading, part_spec, path_sources, part_sources, table_sources, select_plan}
+use Rattle.select_planner.proofs.Imports.{Bool, List, None, Some, [], ap, arith, false, get_or, length, map, nat_lt, refl, slice_get, suc, sum_by, sym, take, zero, ℕ, ◌++◌, ◌+◌, ◌<◌, ◌∙◌, ◌∷◌, ◌≡◌, ◌≤◌, AggCall, Checked, Declared, DraftNode, Expr, FewSources, IsSmall, PartSpec, PartsDecl, Paths, Spec, TableDecl, TableUse, append_assoc, call_arguments, column_items, formula, forms, nodes_behind, kept_for, lane_nodes, length-take-le, map-append, nat_tests, plan_nodes, source_nodes, spec_form, sum_by-cons, take_more, used_tables, with_argument, path_count, crowded_decl, crowded, first_crowded, SourceReading, part_spec, path_sources, part_sources, table_sources, select_plan}
 use Rattle.query_model.specs.declared.processor_spec.Spec.TheVariants as spec
 
 -- two blocks more
@@ -42,6 +42,15 @@ sources-append i (x ∷ xs) ys =
     ap (λ l. record { spec = x; rank = 1; offset = i; takes = 0; gives = 1 } ∷ l)
     (sources-append (suc i) xs ys
     ∙ ap (λ k. source_nodes (suc i) xs ++ source_nodes k ys) same)
+
+-- sources behind other ends
+pub sources-behind : (ends i : ℕ) (specs : List Spec)
+    → nodes_behind ends (source_nodes i specs) ≡ source_nodes (ends + i) specs
+sources-behind ends i [] = refl
+sources-behind ends i (s ∷ specs) =
+    let next : ends + suc i ≡ suc (ends + i) = omega arith in
+    ap (λ l. record { spec = s; rank = 1; offset = ends + i; takes = 0; gives = 1 } ∷ l)
+    (sources-behind ends (suc i) specs ∙ ap (λ k. source_nodes k specs) next)
 
 paths-push : (r : SourceReading) (k : ℕ) (paths : List (List ℕ)) (path : List ℕ)
     → path_sources r k (paths ++ path ∷ [])

@@ -1,6 +1,6 @@
 -- What a checked query fills in of the table of steps.
 use Rattle.std.specs.Prelude.{Bool, List, None, Option, Some, [], slice_get, suc, ℕ, ◌++◌, ◌∷◌}
-use Rattle.select_planner.specs.Prelude.{Checked, CheckedJoin, ColumnType, Declared, JoinSpec, ListFile, Numbers, PartSpec, PartsDecl, Paths, PlanJoin, SelectPlan, SortKey, SortSpec, Spec, TableDecl, TableUse, column_types, numbers, shape_of}
+use Rattle.select_planner.specs.Prelude.{Checked, CheckedJoin, ColumnType, Declared, JoinSpec, ListFile, Numbers, PartSpec, PartsDecl, Paths, PlanJoin, SelectPlan, SortKey, SortSpec, Spec, TableDecl, TableUse, column_types, numbers, shape_of, shape_types}
 use Rattle.query_model.specs.declared.processor_spec.Spec.TheVariants as spec
 
 -- how the parts of a table are read: the place of the table, the types of its columns, whether the
@@ -84,14 +84,22 @@ order_of types rows [] = None
 order_of types rows (key ∷ keys) =
     Some (record { keys = key ∷ keys; types = types; rows = rows })
 
--- the plan of the query over the declared tables, with so many lanes and rows of a chunk
-abbrev pub select_plan : Checked → List TableDecl → (lanes rows : ℕ) → (header : Bool) → SelectPlan
-select_plan q tables lanes rows header = record {
+-- The plan of the query over the declared tables, with so many lanes and rows of a chunk, where the
+-- order's rows have these types.
+abbrev pub ordered_plan : Checked → List TableDecl → (lanes rows : ℕ) → (header : Bool)
+    → List ColumnType → SelectPlan
+ordered_plan q tables lanes rows header types = record {
   sources = table_sources tables header rows q.from;
   join = join_of tables header rows q.from q.join;
   filter = q.filter;
   shape = shape_of q.shape (source_types tables q.from q.join) rows;
-  order = order_of q.types rows q.order;
+  order = order_of types rows q.order;
   limit = q.limit;
   lanes = lanes;
 }
+
+-- the plan of the query, whose order is of the rows that its shape makes
+abbrev pub select_plan : Checked → List TableDecl → (lanes rows : ℕ) → (header : Bool) → SelectPlan
+select_plan q tables lanes rows header =
+    ordered_plan q tables lanes rows header
+    (shape_types q.shape (source_types tables q.from q.join))

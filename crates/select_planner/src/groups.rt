@@ -2,10 +2,11 @@
 ghost use Rattle.std.specs.Prelude.{◌≡◌, ◌++◌, [], map, IfOk, OnOk};
 ghost use Rattle.query_model.specs.Formulas.{formula};
 ghost use Rattle.chunk_data.specs.Values.{type_at as type_at_place};
-ghost use Rattle.plan_meaning.specs.Names.{call_arguments, column_items, group_spec, state_call, with_argument};
+ghost use Rattle.plan_meaning.specs.Names.{call_arguments, column_items, group_spec, shape_types, state_call, with_argument};
+ghost use Rattle.query_model.specs.Names.{group_types, type_of};
 
 use chunk_data::{ColumnType, List, Memory, type_at};
-use query_model::checked::{Expr, Grouping};
+use query_model::checked::{Expr, Grouping, Shape};
 use query_model::plain::{copy_expr, expr_type};
 use query_model::processor_spec::{GroupSpec, StateCall};
 use query_model::query::{AggCall, AggOp, ExprOf};
@@ -82,6 +83,53 @@ fn key_types(alloc: Global, keys: &[u32], types: &[ColumnType]) -> Result<List<C
         of_keys.push(type_at(types, *key as usize))?;
     }
     Ok(List::from_vec(of_keys))
+}
+
+/// The types of the rows that a shape makes of rows of these types.
+pub(crate) fn shape_types(
+    alloc: Global,
+    shape: &Shape,
+    types: &[ColumnType],
+) -> Result<List<ColumnType>, Memory>
+    ensures { IfOk result (λ l. l ≡ shape_types shape.now types.now) }
+{
+    match shape {
+        Shape::Plain(items) => item_types(alloc, items.as_slice(), types),
+        Shape::Grouped(grouping) => {
+            let row = group_types(alloc, grouping, types)?;
+            key_types(alloc, grouping.picks.as_slice(), row.as_slice())
+        }
+    }
+}
+
+fn item_types(
+    alloc: Global,
+    items: &[Expr],
+    types: &[ColumnType],
+) -> Result<List<ColumnType>, Memory>
+    ensures { IfOk result (λ l. l ≡ map (λ e. type_of e types.now) items.now) }
+{
+    let mut of_items = Vec::new(alloc);
+    for item in items {
+        of_items.push(expr_type(item, types))?;
+    }
+    Ok(List::from_vec(of_items))
+}
+
+/// The types of a row of keys and calls.
+fn group_types(
+    alloc: Global,
+    grouping: &Grouping,
+    types: &[ColumnType],
+) -> Result<List<ColumnType>, Memory>
+    ensures { IfOk result (λ l. l ≡ group_types grouping.now types.now) }
+{
+    let mut row = key_types(alloc, grouping.keys.as_slice(), types)?.into_vec();
+    let calls = grouping.calls.as_slice();
+    for call in calls {
+        row.push(state_of(call, types).kind)?;
+    }
+    Ok(List::from_vec(row))
 }
 
 fn states_of(

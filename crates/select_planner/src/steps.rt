@@ -1,16 +1,18 @@
 // The steps of a plan.
-ghost use Rattle.std.specs.Prelude.{◌≡◌, ◌+◌, ◌≤◌, ◌++◌, ◌∷◌, [], map, length, replicate, IfOk, IfErr, OnOk};
+ghost use Rattle.std.specs.Prelude.{◌≡◌, ◌+◌, ◌≤◌, ◌++◌, ◌∷◌, [], map, length, replicate, IfOk, IfErr, None, OnOk};
 ghost use Rattle.query_model.specs.Database.{used_tables};
 ghost use Rattle.query_model.specs.declared.checked.Shape.TheVariants.{Grouped};
 ghost use Rattle.query_model.specs.declared.processor_spec.Kind.TheVariants as csv;
+ghost use Rattle.query_model.specs.declared.processor_spec.Spec.TheVariants.{Resize as resize_spec};
 ghost use Rattle.plan_graph.specs.Drafts.{AllFitDraft, no_draft, with_nodes};
-ghost use Rattle.plan_meaning.specs.Names.{forms, plan_nodes, read_nodes, second_resize, shape_nodes, shape_of};
-ghost use Rattle.select_planner.specs.Refusals.{first_crowded, IsDuePlanRefusal};
+ghost use Rattle.plan_graph.specs.Blocks.{nodes_behind, joint_node, source_nodes};
+ghost use Rattle.plan_meaning.specs.Names.{forms, plan_nodes, read_nodes, shape_nodes, shape_of, shape_types};
+ghost use Rattle.select_planner.specs.Refusals.{crowded, first_crowded, IsDuePlanRefusal};
 ghost use Rattle.select_planner.specs.Shapes.{kept_at, plan_node_of, reserves_from, IsSoundPlan, LaysDown};
 ghost use Rattle.select_planner.specs.Boxes.{reserved_nodes};
 ghost use Rattle.select_planner.specs.Steps.{join_of, order_of, select_plan, source_types, table_sources};
 
-use crate::groups::{arguments_of, columns_of, group_spec};
+use crate::groups::{arguments_of, columns_of, group_spec, shape_types};
 use crate::lanes::{
     add_filters, add_gather, add_items, add_joint, add_limit, add_node, add_partials, add_sort,
 };
@@ -18,7 +20,7 @@ use crate::nodes::{Plan, PlanNode, PlanRefusal, PlanReserve};
 use crate::parts::{MAX_PARTS, SourceReading, add_sources, check_tables, join_spec, source_types};
 use chunk_data::{ColumnType, List, Memory};
 use plan_graph::{DraftBuilder, DraftNode, build};
-use query_model::checked::{Checked, Expr, Grouping, Shape};
+use query_model::checked::{Checked, Expr, Grouping, Shape, TableUse};
 use query_model::processor_spec::{Kind, SortSpec, Spec};
 use query_model::query::TableDecl;
 use std::alloc::Global;
@@ -104,7 +106,7 @@ fn add_read(
                 rows: reading.rows,
                 place: ends,
             };
-            let joined = add_sources(alloc, nodes, join.table, tables, second)?;
+            let joined = add_second_sources(alloc, nodes, join.table, tables, second)?;
             add_joint(nodes, Spec::Resize, 2, ends, 1)?;
             add_second_resize(nodes, joined)?;
             let spec = join_spec(alloc, query.from, join, tables, reading.rows)?;
@@ -114,10 +116,30 @@ fn add_read(
     }
 }
 
-/// Adds the resize of the second table's sources.
+/// Adds the sources of the second table, a block behind the ends of FROM's.
+fn add_second_sources(
+    alloc: Global,
+    nodes: &mut List<DraftNode>,
+    table: TableUse,
+    tables: &[TableDecl],
+    reading: SourceReading,
+) -> Result<u32, Memory>
+    requires few_parts { crowded tables.now table ≡ None }
+    requires place { reading.place ≤ 32 }
+    ensures nodes { OnOk result (forms nodes.new ≡ forms nodes.old
+        ++ forms (nodes_behind reading.place (source_nodes 0
+        (table_sources tables.now reading.header reading.rows table)))) }
+    ensures few { IfOk result (λ n. n ≤ 32) }
+    ensures count { IfOk result
+        (λ n. n ≡ length (table_sources tables.now reading.header reading.rows table)) }
+{
+    add_sources(alloc, nodes, table, tables, reading)
+}
+
+/// Adds the resize of the second table's sources, a block behind the one end of FROM's.
 fn add_second_resize(nodes: &mut List<DraftNode>, sources: u32) -> Result<(), Memory>
     ensures { OnOk result (forms nodes.new ≡ forms nodes.old
-        ++ forms (second_resize sources ∷ [])) }
+        ++ forms (nodes_behind 1 (joint_node resize_spec 2 sources 1 ∷ []))) }
 {
     let resize = DraftNode {
         spec: Spec::Resize,
@@ -141,16 +163,18 @@ fn add_shape(
     ensures { OnOk result (forms nodes.new ≡ forms nodes.old
         ++ forms (shape_nodes
         (shape_of query.now.shape (source_types tables.now query.now.from query.now.join) rows)
-        (order_of query.now.types rows query.now.order) lanes)) }
+        (order_of (shape_types query.now.shape
+        (source_types tables.now query.now.from query.now.join)) rows query.now.order) lanes)) }
 {
+    let types = source_types(alloc, query, tables)?;
+    let order = order_of(alloc, query, types.as_slice(), rows)?;
     match &query.shape {
         Shape::Plain(items) => {
             add_items(alloc, nodes, items, 6, lanes)?;
-            add_gather(nodes, order_of(query, rows)?, lanes)
+            add_gather(nodes, order, lanes)
         }
         Shape::Grouped(grouping) => {
-            let types = source_types(alloc, query, tables)?;
-            add_groups(alloc, nodes, query, grouping, types.as_slice(), rows, lanes)
+            add_groups(alloc, nodes, grouping, types.as_slice(), order, rows, lanes)
         }
     }
 }
@@ -160,15 +184,14 @@ fn add_shape(
 fn add_groups(
     alloc: Global,
     nodes: &mut List<DraftNode>,
-    query: &Checked,
     grouping: &Grouping,
     types: &[ColumnType],
+    order: Option<SortSpec>,
     rows: u32,
     lanes: u32,
 ) -> Result<(), Memory>
     ensures { OnOk result (forms nodes.new ≡ forms nodes.old
-        ++ forms (shape_nodes (shape_of (Grouped grouping.now) types.now rows)
-        (order_of query.now.types rows query.now.order) lanes)) }
+        ++ forms (shape_nodes (shape_of (Grouped grouping.now) types.now rows) order lanes)) }
 {
     // What a step alone needs is dropped with it.
     {
@@ -183,21 +206,26 @@ fn add_groups(
         let picks = columns_of(alloc, grouping.picks.as_slice())?;
         add_items(alloc, nodes, &picks, 10, 1)?;
     }
-    let order = order_of(query, rows)?;
     add_sort(nodes, order)?;
     Ok(())
 }
 
 /// The order of the output rows, where there are keys.
-fn order_of(query: &Checked, rows: u32) -> Result<Option<SortSpec>, Memory>
-    ensures { IfOk result (λ order. order ≡ order_of query.now.types rows query.now.order) }
+fn order_of(
+    alloc: Global,
+    query: &Checked,
+    types: &[ColumnType],
+    rows: u32,
+) -> Result<Option<SortSpec>, Memory>
+    ensures { IfOk result (λ order. order
+        ≡ order_of (shape_types query.now.shape types.now) rows query.now.order) }
 {
     if query.order.len() == 0 {
         return Ok(None);
     }
     Ok(Some(SortSpec {
         keys: query.order.copy()?,
-        types: query.types.copy()?,
+        types: shape_types(alloc, &query.shape, types)?,
         rows,
     }))
 }

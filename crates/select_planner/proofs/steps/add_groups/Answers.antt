@@ -1,4 +1,4 @@
-use Rattle.select_planner.proofs.Imports.{DraftNode, List, [], ap, ap₂, call_arguments, column_items, expression, filter_nodes, forms, formula, group_spec, joint_node, lane_nodes, map, order_of, sort_nodes, ◌++◌, ◌∙◌, ◌∷◌, ◌≡◌}
+use Rattle.select_planner.proofs.Imports.{DraftNode, List, [], ap, ap₂, call_arguments, column_items, expression, filter_nodes, forms, formula, group_spec, joint_node, lane_nodes, map, sort_nodes, ◌++◌, ◌∙◌, ◌∷◌, ◌≡◌}
 use Rattle.select_planner.proofs.Laying.{blocks-more, group-steps, lanes-same}
 use Rattle.query_model.specs.declared.processor_spec.Spec.TheVariants as spec
 use Rattle.select_planner.proofs.steps.add_groups.Goals as goal
@@ -13,9 +13,7 @@ returns c =
     let d : List DraftNode = joint_node (spec.MergeAggregate groups) 8 c.args.lanes 1 ∷ [] in
     let e : List DraftNode = filter_nodes g.having 9 1 in
     let f : List DraftNode = lane_nodes (spec.Expression (column_items g.picks)) 10 0 1 in
-    let q = c.args.query.now in
-    let order = order_of q.types c.args.rows q.order in
-    let h : List DraftNode = sort_nodes order in
+    let h : List DraftNode = sort_nodes c.args.order in
     let x : List DraftNode = c.args.nodes.now in
     let arguments : map formula c.in_ok-arguments.arguments ≡ map formula items =
     c.in_ok-arguments.ensures
@@ -36,5 +34,5 @@ returns c =
     (rw (c.in_ok-picks.ensures ∙ ap column_items c.as_slice-3.ensures) at
     c.in_ok-add_items-2.ensures) in
     blocks-more x c.add_items-2.new.nodes c.add_sort.new.nodes ((((a ++ b) ++ d) ++ e) ++ f) h five
-    (rw c.in_ok-order.ensures at c.in_ok-add_sort.ensures)
+    c.in_ok-add_sort.ensures
     ∙ ap (λ l. forms x ++ forms l) (group-steps a b d e f h)
