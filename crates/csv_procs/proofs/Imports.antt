@@ -1,6 +1,6 @@
 -- The names from outside that this crate's proofs use, in one place.
 pub use Rattle.csv_procs.specs.Fetching.{FaultComes, IsKnownOf, IsRead, StaysAt, StepComes, StepsTo}
-pub use Rattle.csv_procs.specs.FileFetch.{HoldsFront, HoldsMore, IsAfter, IsFile, Position, ReaderState, ToldFiles}
+pub use Rattle.csv_procs.specs.FileFetch.{HoldsFront, HoldsMore, IsFile}
 pub use Rattle.csv_procs.specs.ListLines.{AreOf, AreTaken}
 pub use Rattle.csv_procs.specs.Names.{GivesLeft, HasFitLeft, IsLineTaken, IsNextOfList, IsNextOfSource, IsSome, IsSpecOf, IsWholeFile, MatchesReader, PartMatchesReader, Steps, csv_kind, files_of, inputs_in, is_path, left_rows, list_bad_line, list_paths, listed_edge, listed_part, lists_in, max, open_in, sourcing, stage_in, without_cr}
 pub use Rattle.csv_procs.specs.Parts.{csv_spec, is_fetched, is_grown, paths_of, source_unmade, types_or}
@@ -8,6 +8,7 @@ pub use Rattle.csv_procs.specs.Prelude.{Fetching, FileState, Growth, ListedPaths
 pub use Rattle.csv_procs.specs.SourceShells.{list_uses, source_uses}
 pub use Rattle.csv_procs.specs.FileFetch.{IsToldTooLong as IsLongTold}
 pub use Rattle.csv_rows.specs.RowsLeft.{RowsLeft, TakesRows, at_end}
+pub use Rattle.outside_io.specs.Readers.{IsAfter, Position, ReaderState, ToldFiles}
 pub use Rattle.proc_api.specs.Forms.{spec_form}
 pub use Rattle.proc_api.specs.kinds.List.{listed_edges, listed_parts}
 pub use Rattle.proc_api.specs.Names.{ArePartBytes, AreResized, Expands, IsLongFile, KnowsList, OwnState, Schedules, WakeComes, HasMade, IsReadOut, KeepsMade, own_of, reading_of, spec_growth}

@@ -5,7 +5,8 @@ use Rattle.query_model.specs.declared.processor_spec.Spec.TheVariants as spec
 use Rattle.csv_procs.specs.declared.file_fetch.Fetched.TheVariants as fetched
 use Rattle.proc_api.specs.declared.status.Wake.TheVariants as wake
 use Rattle.proc_api.specs.declared.status.WorkFault.TheVariants as fault
-use Rattle.csv_procs.specs.FileFetch.{HoldsFront, HoldsMore, IsAfter, IsFile, IsToldTooLong, PassesLimit, Position, ReaderState, ToldFiles}
+use Rattle.csv_procs.specs.FileFetch.{HoldsFront, HoldsMore, IsFile, IsToldTooLong, PassesLimit}
+use Rattle.outside_io.specs.Readers.{IsAfter, Position, ReaderState, ToldFiles}
 use Rattle.csv_procs.specs.Parts.{IsWholeFile, stage_in}
 
 -- the held bytes begin the file, and are all that the reader gave

@@ -1,46 +1,14 @@
 -- What a fetch of a file's bytes gives, block by block.
-use Rattle.std.specs.Prelude.{◌≡◌, ℕ, ◌+◌, ◌<◌, ◌≤◌, List, ◌++◌, length, take, Option, Some, IfSome, Result, Ok, Err}
+use Rattle.std.specs.Prelude.{◌≡◌, ℕ, ◌+◌, ◌<◌, ◌≤◌, List, ◌++◌, length, take, Some, IfSome, Result, Ok, Err}
 use Rattle.outside_io.specs.Counts.{CountIncreased}
+use Rattle.outside_io.specs.Readers.{Position, ReaderState, ToldFiles}
 use Rattle.outside_io.specs.Told.{GivesNext, StandsAtEnd, moved_by}
-use Rattle.outside_io.specs.declared.entries.Failed.{Failed}
 use Rattle.outside_io.specs.declared.entries.FileEntry.{FileEntry}
-use Rattle.outside_io.specs.declared.entries.Got.{Got}
-use Rattle.outside_io.specs.declared.entries.Got.TheVariants as got
 use Rattle.proc_api.specs.declared.status.WorkFault.{WorkFault}
 use Rattle.proc_api.specs.declared.status.WorkFault.TheVariants as fault
 use Rattle.csv_procs.specs.declared.file_fetch.Fetched.{Fetched}
 use Rattle.csv_procs.specs.declared.file_fetch.Fetched.TheVariants as fetched
 unfoldable use Rattle.outside_io.specs.Told.{told_bytes}
-
--- where a reader stands: a path, and the place in its file
-abbrev pub Position : Type 0
-Position = Option (List ℕ × ℕ)
-
-abbrev pub ToldFiles : Type 0
-ToldFiles = Option (List FileEntry)
-
--- a reader: the files that it tells, where it stands, and its counts
-pub record ReaderState : Type 0 where
-  pub files : ToldFiles
-  pub position : Position
-  pub faults : ℕ
-  pub pendings : ℕ
-
--- it tells the same files, and its counts don't fall
-pub record IsAfter (x y : ReaderState) : Type 0 where
-  pub told : y.files ≡ x.files
-  pub faults_kept : x.faults ≤ y.faults
-  pub pendings_kept : x.pendings ≤ y.pendings
-
--- what one read put into a buffer
-abbrev pub BlockGiven : (x y : ReaderState) → List ℕ → Result Got Failed → Type 0
-BlockGiven x y buffer (Ok (got.Bytes n)) = (0 < n) × (n ≤ length buffer)
-    × GivesNext x.files x.position n buffer × (y.position ≡ moved_by n x.position)
-BlockGiven x y buffer (Ok got.End) =
-    StandsAtEnd x.files x.position × (y.position ≡ x.position)
-BlockGiven x y buffer (Ok got.Pending) =
-    CountIncreased x.pendings y.pendings × (y.position ≡ x.position)
-BlockGiven x y buffer (Err e) = CountIncreased x.faults y.faults
 
 -- the bytes of one read, from where the reader stood to where it stands
 pub record ReadsBlock (x y : ReaderState) (block : List ℕ) : Type 0 where

@@ -42,12 +42,7 @@ pub trait Feeds {
 }
 
 impl<R: FileReader> Feeds for R {
-    ghost reader = { λ r. record {
-      files = R.files r;
-      position = R.position r;
-      faults = R.faults r;
-      pendings = R.pendings r;
-    } };
+    ghost reader = { R.reader };
 
     fn open_file(&mut self, path: &Bytes) -> Result<(), Failed> {
         self.open_path(path)

@@ -29,15 +29,16 @@ impl<R: FileReader, K: FileKernel> Model for FileSource<R, K> {
     ghost coded = { Prim.hlevel (codes, spec.the_row.coded) };
 
     ghost view = { λ s. record {
-      files = option_map files_of (R.files s.reader);
-      faults = R.faults s.reader;
-      pendings = R.pendings s.reader;
-      position = R.position s.reader;
+      files = option_map files_of (R.reader s.reader).files;
+      faults = (R.reader s.reader).faults;
+      pendings = (R.reader s.reader).pendings;
+      position = (R.reader s.reader).position;
       count = s.pulled;
       loaded = option_map (λ l. shell_state (K.state l.kernel) l.held l.notes) s.loaded;
     } };
 
-    ghost invariant = { λ s. PartMatchesReader (R.files s.reader) (R.position s.reader)
+    ghost invariant = { λ s. PartMatchesReader (R.reader s.reader).files
+        (R.reader s.reader).position
         (option_map (λ l. shell_state (K.state l.kernel) l.held l.notes) s.loaded) };
 }
 
@@ -47,9 +48,9 @@ impl<R: FileReader, K: FileKernel> FileSource<R, K> {
     /// A blank source, which reads by this reader.
     pub fn new(alloc: Global, reader: R) -> FileSource<R, K>
         ensures blank { IsUnloadedProcessor K.kind_is (seen_by K.kind_is result) }
-        ensures files { result.files ≡ option_map files_of (R.files reader) }
-        ensures faults { result.faults ≡ R.faults reader }
-        ensures pendings { result.pendings ≡ R.pendings reader }
+        ensures files { result.files ≡ option_map files_of (R.reader reader).files }
+        ensures faults { result.faults ≡ (R.reader reader).faults }
+        ensures pendings { result.pendings ≡ (R.reader reader).pendings }
     {
         FileSource {
             alloc,

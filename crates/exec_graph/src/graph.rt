@@ -1,8 +1,8 @@
-ghost use Rattle.std.specs.Prelude.{◌≡◌, ℕ, ◌<◌, ◌≤◌, ◌+◌, ◌++◌, ◌∷◌, ◌≢◌, [], true, false, None, length, map, replicate, IfOk, IfErr, OnOk, OnErr, IfSome, IfNone};
+ghost use Rattle.std.specs.Prelude.{◌≡◌, ℕ, ◌<◌, ◌≤◌, ◌+◌, ◌++◌, ◌∷◌, [], true, false, None, length, map, IfOk, IfErr, OnOk, OnErr, IfSome, IfNone};
 ghost use Rattle.std.specs.List.{All};
 ghost use Rattle.proc_api.specs.Names.{IsBlank, IsFresh, is_gapless, IsGraphSoFar, IsGraph, reserved_edges};
 ghost use Rattle.exec_graph.specs.Building.{IsAddRefused, edge_refusal, IsEdgeRefused, IsBuildRefused, IsReserveRefused};
-ghost use Rattle.proc_api.specs.Reserves.{AreReserves, AreStarting, IsAdded, behind_wires, reserve_at};
+ghost use Rattle.proc_api.specs.Reserves.{AreReserves, AreStarting, IsAdded, behind_wires};
 
 use crate::causes::{
     AddCause, BuildCause, BuildRefusal, NotAdded, NotBuilt, NotReserved, ReserveCause,
@@ -47,12 +47,12 @@ pub struct GraphBuilder {
 }
 
 impl GraphBuilder {
+    ghost use Rattle.exec_graph.specs.Builders.{AddsReserve, HasParts, IsUnchanged, MayReserve};
+
     /// A graph without nodes.
     pub fn new(alloc: Global) -> GraphBuilder
         ensures boxes { result.boxes.items ≡ [] }
-        ensures ranks { result.ranks ≡ [] }
-        ensures wires { result.wires ≡ [] }
-        ensures reserves { result.reserves ≡ [] }
+        ensures parts { HasParts result [] [] [] }
     {
         GraphBuilder {
             boxes: Vec::new(alloc),
@@ -66,18 +66,15 @@ impl GraphBuilder {
     /// handed back.
     pub fn add(&mut self, b: Box<dyn Processor + Send>, rank: u32) -> Result<u32, NotAdded>
         requires fresh { IsFresh (seen b) }
-        ensures number { IfOk result (λ n. n ≡ length self.old.ranks) }
-        ensures room { OnOk result (length self.old.ranks < 256) }
+        ensures number { IfOk result (λ n. (n ≡ length self.old.ranks) × (n < 256)) }
         ensures boxes { OnOk result (self.new.boxes.items ≡ self.old.boxes.items ++ b ∷ []) }
-        ensures ranks { OnOk result (self.new.ranks ≡ self.old.ranks ++ rank ∷ []) }
+        ensures parts { OnOk result (HasParts self.new (self.old.ranks ++ rank ∷ []) self.old.wires
+            self.old.reserves) }
         ensures starting { AreStarting self.old.reserves (map (λ b. seen b) self.old.boxes.items)
             → AreStarting self.new.reserves (map (λ b. seen b) self.new.boxes.items) }
         ensures handed_back { IfErr result (λ r. r.processor ≡ b) }
         ensures refused { IfErr result (λ r. IsAddRefused r.cause (length self.old.ranks)) }
-        ensures same_boxes { OnErr result (self.new.boxes.items ≡ self.old.boxes.items) }
-        ensures same_ranks { OnErr result (self.new.ranks ≡ self.old.ranks) }
-        ensures same_wires { self.new.wires ≡ self.old.wires }
-        ensures same_reserves { self.new.reserves ≡ self.old.reserves }
+        ensures unchanged { OnErr result (IsUnchanged self.old self.new) }
     {
         let node = self.ranks.len();
         if node >= MAX_NODES {
@@ -113,12 +110,11 @@ impl GraphBuilder {
             (record { from = from; out = out; to = to; input = input }) ≡ None) }
         ensures refused { IfErr result (λ r. IsEdgeRefused r self.old.ranks self.old.wires
             self.old.reserves (record { from = from; out = out; to = to; input = input })) }
-        ensures wires { OnOk result (self.new.wires
-            ≡ self.old.wires ++ record { from = from; out = out; to = to; input = input } ∷ []) }
-        ensures same_wires { OnErr result (self.new.wires ≡ self.old.wires) }
-        ensures same_boxes { self.new.boxes.items ≡ self.old.boxes.items }
-        ensures same_ranks { self.new.ranks ≡ self.old.ranks }
-        ensures same_reserves { self.new.reserves ≡ self.old.reserves }
+        ensures boxes { OnOk result (self.new.boxes.items ≡ self.old.boxes.items) }
+        ensures parts { OnOk result (HasParts self.new self.old.ranks
+            (self.old.wires ++ record { from = from; out = out; to = to; input = input } ∷ [])
+            self.old.reserves) }
+        ensures unchanged { OnErr result (IsUnchanged self.old self.new) }
     {
         let wire = Wire {
             from,
@@ -143,34 +139,18 @@ impl GraphBuilder {
         blanks: Vec<Box<dyn Processor + Send>>,
         edges: u32,
     ) -> Result<(), NotReserved>
-        requires expander_added { IsAdded (length self.old.ranks) self.old.reserves expander }
-        requires no_reserve { (k : ℕ) → k < length self.old.reserves
-            → (reserve_at self.old.reserves k).node ≢ expander }
+        requires expander { MayReserve self.old expander }
         requires blank { All IsBlank (map (λ b. seen b) blanks.items) }
-        ensures room { OnOk result ((length self.old.ranks + length blanks.items ≤ 256)
-            × (length self.old.wires + reserved_edges self.old.reserves + edges ≤ 1024)) }
         ensures boxes { OnOk result (self.new.boxes.items ≡ self.old.boxes.items ++ blanks.items) }
-        ensures ranks { OnOk result
-            (self.new.ranks ≡ self.old.ranks ++ replicate (length blanks.items) 0) }
-        ensures reserves { OnOk result (self.new.reserves ≡ self.old.reserves
-            ++ record {
-              node = expander;
-              first_node = length self.old.ranks;
-              nodes = length
-                  blanks.items;
-              first_edge = reserved_edges self.old.reserves;
-              edges = edges;
-            } ∷ []) }
+        ensures kept { OnOk result
+            (AddsReserve self.old self.new expander (length blanks.items) edges) }
         ensures starting { AreStarting self.old.reserves (map (λ b. seen b) self.old.boxes.items)
             → AreStarting self.new.reserves (map (λ b. seen b) self.new.boxes.items) }
         ensures handed_back { IfErr result (λ r. r.blanks.items ≡ blanks.items) }
         ensures refused { IfErr result
             (λ r. IsReserveRefused r.cause (length self.old.ranks + length blanks.items)
             (length self.old.wires + reserved_edges self.old.reserves + edges)) }
-        ensures same_boxes { OnErr result (self.new.boxes.items ≡ self.old.boxes.items) }
-        ensures same_ranks { OnErr result (self.new.ranks ≡ self.old.ranks) }
-        ensures same_reserves { OnErr result (self.new.reserves ≡ self.old.reserves) }
-        ensures same_wires { self.new.wires ≡ self.old.wires }
+        ensures unchanged { OnErr result (IsUnchanged self.old self.new) }
     {
         let mut blanks = blanks;
         let nodes = self.ranks.len();

@@ -3,6 +3,7 @@ use Rattle.chunk_data.specs.Names.{Table, column_type, values}
 use Rattle.chunk_data.specs.declared.typed_column.Column.{Column}
 use Rattle.query_model.specs.Expressions.{Expr, type_of, value_of}
 use Rattle.query_model.specs.Prelude.{int_rem_euclid}
+use Rattle.query_model.specs.Typing.{IsTyped, plain_of}
 use Rattle.query_model.specs.declared.query.CompareOp.{CompareOp}
 use Rattle.std.specs.Prelude.{Bool, None, Option, Some, false, map, pos, true, unsigned_abs, ℕ, ℤ, ◌^◌, ◌≡◌}
 use Rattle.query_model.specs.declared.query.CompareOp.TheVariants as compare
@@ -26,6 +27,13 @@ IsColumnMade (expr.Arith' op p a q b) table None = ⊥
 IsColumnMade (expr.Arith' op p a q b) table (Some c) =
     (column_type c ≡ type_of (expr.Arith' op p a q b)
     table.types) × (values c ≡ map (value_of (expr.Arith' op p a q b)) table.rows)
+
+-- the values of an expression over a chunk stand in a column: the one that was made, or that of a
+-- column reference
+pub record StandsInColumn (e : Expr) (table : Table) (made : Option Column) : Type 0 where
+  pub typed : IsTyped table.types e
+  pub not_plain : plain_of e ≡ None
+  pub column : IsColumnMade e table made
 
 -- the comparison that is true of two operands in the other order
 abbrev pub flipped : CompareOp → CompareOp

@@ -3,7 +3,7 @@ ghost use Rattle.std.specs.Option.{option_map};
 ghost use Rattle.std.specs.List.{zip};
 ghost use Rattle.chunk_data.specs.Columns.{column_type, values};
 ghost use Rattle.query_model.specs.Names.{value_of, type_of, number_of, plain_value, arith_type, arith_value, result_type, IsItem, IsTyped, plain_of, CanHold, AreNumbersAlike, AreAlike};
-ghost use Rattle.expr_eval.specs.Results.{IsColumnMade, swap_if};
+ghost use Rattle.expr_eval.specs.Results.{IsColumnMade, StandsInColumn, swap_if};
 
 use crate::arith_loops::{
     int_results, int_results_beside, int_results_onto, uint_differences, uint_differences_beside,
@@ -173,9 +173,7 @@ fn pairs_onto(alloc: Global, op: ArithOp, left: Column, right: &Column) -> Resul
 
 /// The column of the expression's values: the one that was made, or that of a column reference.
 pub(crate) fn column_at<'a>(expr: &Expr, made: &'a Option<Column>, chunk: &'a Chunk) -> &'a Column
-    requires typed { IsTyped chunk.now.types expr.now }
-    requires not_plain { plain_of expr.now ≡ None }
-    requires made { IsColumnMade expr.now chunk.now made.now }
+    requires { StandsInColumn expr.now chunk.now made.now }
     ensures kind { column_type result.now ≡ type_of expr.now chunk.now.types }
     ensures values { values result.now ≡ map (value_of expr.now) chunk.now.rows }
 {
@@ -199,9 +197,7 @@ fn number_beside(
     made: Option<Column>,
     chunk: &Chunk,
 ) -> Result<Column, Memory>
-    requires typed { IsTyped chunk.now.types expr.now }
-    requires not_plain { plain_of expr.now ≡ None }
-    requires made { IsColumnMade expr.now chunk.now made }
+    requires operand { StandsInColumn expr.now chunk.now made }
     requires held { CanHold (type_of expr.now chunk.now.types) (number_of n) }
     ensures kind { IfOk result
         (λ c. column_type c ≡ result_type op (type_of expr.now chunk.now.types)) }
@@ -222,14 +218,10 @@ fn expressions(
     right_made: Option<Column>,
     chunk: &Chunk,
 ) -> Result<Column, Memory>
-    requires left { IsTyped chunk.now.types left.now }
-    requires right { IsTyped chunk.now.types right.now }
-    requires left_not_plain { plain_of left.now ≡ None }
-    requires right_not_plain { plain_of right.now ≡ None }
+    requires left { StandsInColumn left.now chunk.now left_made }
+    requires right { StandsInColumn right.now chunk.now right_made }
     requires alike { AreNumbersAlike (type_of left.now chunk.now.types)
         (type_of right.now chunk.now.types) }
-    requires left_made { IsColumnMade left.now chunk.now left_made }
-    requires right_made { IsColumnMade right.now chunk.now right_made }
     ensures kind { IfOk result
         (λ c. column_type c ≡ result_type op (type_of left.now chunk.now.types)) }
     ensures values { IfOk result (λ c. values c ≡ map

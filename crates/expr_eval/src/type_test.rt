@@ -1,29 +1,12 @@
 ghost use Rattle.std.specs.Prelude.{◌≡◌, ◌↔◌, IsTrue};
 ghost use Rattle.std.specs.Option.{option_map};
-ghost use Rattle.query_model.specs.Names.{type_of, number_of, IsTyped, IsTypedOperand, IsTypedCond, operand_type, is_text, plain_of, CanHold, AreAlike, AreNumbersAlike};
+ghost use Rattle.query_model.specs.Names.{type_of, number_of, IsTyped, IsTypedOperand, IsTypedCond, operand_type, is_text, plain_of, AreAlike, AreNumbersAlike};
 
 use crate::expression::plain_number;
-use chunk_data::{ColumnType, PlainType};
+use chunk_data::ColumnType;
 use query_model::checked::{Cond, Expr};
-use query_model::plain::expr_type;
+use query_model::plain::{can_hold, expr_type};
 use query_model::query::{CondOf, ExprOf, Number, Operand};
-
-// Whether the type has the number.
-fn can_hold(kind: ColumnType, n: Number) -> bool
-    ensures { IsTrue result ↔ CanHold kind (number_of n) }
-{
-    match kind.plain() {
-        PlainType::Int64 => {
-            if n.negative {
-                n.size <= 9223372036854775808
-            } else {
-                n.size < 9223372036854775808
-            }
-        }
-        PlainType::UInt64 => !n.negative || n.size == 0,
-        PlainType::Text => false,
-    }
-}
 
 // Whether the types are one type of numbers.
 fn numbers_alike(s: ColumnType, t: ColumnType) -> bool

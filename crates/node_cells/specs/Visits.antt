@@ -5,7 +5,7 @@ use Rattle.exec_laws.specs.declared.edges.NodeStatus.{NodeStatus}
 use Rattle.exec_laws.specs.declared.edges.NodeStatus.TheVariants as node
 use Rattle.node_cells.specs.Prelude.{BoxPicture, Identity, NodeCell}
 use Rattle.node_cells.specs.Stored.{IsStored}
-use Rattle.node_cells.specs.Turns.{Fetches, IsDue, IsStopped, KeepsProcessor, TakesTurns}
+use Rattle.node_cells.specs.Turns.{Fetches, IsDue, IsStopped, KeepsProcessor, Stays, TakesTurns}
 use Rattle.node_cells.specs.declared.node_run.RunEnd.{RunEnd}
 use Rattle.node_cells.specs.declared.node_run.RunEnd.TheVariants as run
 use Rattle.node_cells.specs.declared.stop_cause.StopCause.{StopCause}
@@ -64,3 +64,10 @@ module _ {P : Type 0} (seen : P → BoxPicture) (t : Identity) (q : TaskQueue)
 
   abbrev pub Visits : (old new : NodeCell P) → (before after : WorkerTasks) → Type 0
   Visits old new before after = VisitsFrom old.mark.state old new before after
+
+-- how a visit leaves the cell of a node; a blank box is left alone
+pub record LeavesCell {P : Type 0} (seen : P → BoxPicture) (t : Identity) (o : Option StopCause)
+    (old new : NodeCell P) : Type 0 where
+  pub stays : Stays seen o old new
+  pub blank : (seen old.processor).spec ≡ None → new ≡ old
+  pub lies : LiesAs seen t o new

@@ -1,10 +1,9 @@
 //! A visit of a node whose cell lies on a shelf.
-ghost use Rattle.std.specs.Prelude.{◌≡◌, IfOk, None};
+ghost use Rattle.std.specs.Prelude.{◌≡◌, IfOk};
 ghost use Rattle.exec_table.specs.Seats.{identity_of};
 ghost use Rattle.node_cells.specs.Stops.{stop_of};
 ghost use Rattle.node_cells.specs.Stored.{IsStored};
-ghost use Rattle.node_cells.specs.Turns.{Stays};
-ghost use Rattle.node_cells.specs.Visits.{LiesAs, Visits, run_end_of};
+ghost use Rattle.node_cells.specs.Visits.{LeavesCell, Visits, run_end_of};
 ghost use Rattle.task_queue.specs.Queues.{IsPassOf};
 ghost use Rattle.task_queue.specs.Tasks.{OffersNumbers};
 
@@ -31,11 +30,9 @@ pub fn visit_node<P: Processor, R: Wait>(
     requires stored { IsStored P.seen (identity_of table.now) cell.old }
     ensures pass { IsPassOf queue.now tasks.new.pass }
     ensures offers { OffersNumbers queue.now tasks.old tasks.new }
-    ensures stays { Stays P.seen (stop_of result) cell.old cell.new }
+    ensures leaves { LeavesCell P.seen (identity_of table.now) (stop_of result) cell.old cell.new }
     ensures visits { Visits P.seen (identity_of table.now) queue.now (stop_of result)
         cell.old cell.new tasks.old tasks.new }
-    ensures blank { (P.seen cell.old.processor).spec ≡ None → cell.new ≡ cell.old }
-    ensures lies { LiesAs P.seen (identity_of table.now) (stop_of result) cell.new }
     ensures end { IfOk result (λ end. end ≡ run_end_of cell.new.mark.state) }
 {
     match cell.mark.state {

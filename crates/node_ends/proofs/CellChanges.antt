@@ -3,10 +3,10 @@ use Rattle.node_ends.proofs.Imports.{AreCells, BoxPicture, GivenBack, Identity, 
 use Rattle.std.proofs.Common.{Err, IfErr, Ok, OnOk, Result}
 use Rattle.node_cells.specs.Stops.{GrowthStays, StopHolds, stop_of}
 use Rattle.node_cells.specs.declared.stop_cause.StopCause.{StopCause}
-use Rattle.node_ends.proofs.Boxes.{AreAllBorn, at-changed, given-changed}
+use Rattle.node_ends.proofs.Boxes.{AreAllBorn, at-changed, given-both, given-changed, growths-both, stops-both}
 use Rattle.node_ends.proofs.Lists.{read-map, there}
 use Rattle.node_ends.proofs.Visits.{stored-cell}
-use Rattle.node_ends.specs.RunEnds.{GrowthsStay, StopsAt}
+use Rattle.node_ends.specs.RunEnds.{AreStoppedAt, AreVisited}
 use Rattle.exec_laws.specs.Names.{AreEdgesOf}
 use Rattle.proc_api.specs.Names.{no_box}
 
@@ -28,7 +28,7 @@ module _ {P : Type 0} (seen : P → BoxPicture) (t : Identity) (cells : List (No
 
   module _ (o : Option StopCause) (y : NodeCell P) (stays : Stays seen o x y) where
     -- the boxes are given back
-    pub boxes-back : GivenBack (boxes_in seen cells) (boxes_in seen (set cells n y))
+    boxes-back : GivenBack (boxes_in seen cells) (boxes_in seen (set cells n y))
     boxes-back = given-changed seen cells n x y lt read
         (stored-cell seen t x own-cell.between).node.box.running.loaded stays.box
 
@@ -41,7 +41,7 @@ module _ {P : Type 0} (seen : P → BoxPicture) (t : Identity) (cells : List (No
     }
 
     -- the cells are still those of all nodes
-    pub cells-changed : IsBetweenVisits seen t y → AreCells seen t (set cells n y)
+    cells-changed : IsBetweenVisits seen t y → AreCells seen t (set cells n y)
     cells-changed h = record {
       count = length-set cells n y ∙ all.count;
       graph = rw length-set all.graph;
@@ -63,21 +63,49 @@ module _ {P : Type 0} (seen : P → BoxPicture) (t : Identity) (cells : List (No
   unfolding box_at
   before = get_or-map f cells n x no_box lt ∙ ap f (sym read)
 
-  -- where it stopped nothing the growths stay
-  pub growths-changed : {A : Type 0} (r : Result A StopCause) (y : NodeCell P)
-      → Stays seen (stop_of r) x y
-      → OnOk r (GrowthsStay (boxes_in seen cells) (boxes_in seen (set cells n y)))
-  growths-changed (Ok v) y stays = λ k less.
-      at-changed seen cells n x y lt read (GrowthStays None) (λ p lawful. refl) stays.growth k
-  growths-changed (Err s) y stays = tt
+  -- where it stopped nothing these are the cells of all nodes after it
+  pub visited-at : {A : Type 0} (r : Result A StopCause) (y : NodeCell P)
+      → Stays seen (stop_of r) x y → OnOk r (IsBetweenVisits seen t y)
+      → OnOk r (AreVisited seen t cells (set cells n y))
+  visited-at (Ok v) y stays between = record {
+    cells = cells-changed _ y stays between;
+    count = length-set cells n y;
+    back = boxes-back _ y stays;
+    growth = λ k less.
+        at-changed seen cells n x y lt read (GrowthStays None) (λ p lawful. refl) stays.growth k;
+  }
+  visited-at (Err s) y stays between = tt
 
   -- what stops the run at its box stops it at its node
   pub stops-at : {A : Type 0} (r : Result A StopCause) (y : NodeCell P)
       → Stays seen (stop_of r) x y → IfErr r (λ s. StopHolds s (seen y.processor))
-      → IfErr r (λ s. StopsAt n s (boxes_in seen cells) (boxes_in seen (set cells n y)))
+      → IfErr r (λ s. AreStoppedAt seen n s cells (set cells n y))
   stops-at (Ok v) y stays h = tt
   stops-at (Err s) y stays h = record {
-    in_range = rw (length-map, length-set) lt;
-    stop = rw (here y) h;
-    growth = rw (here y, before) stays.growth;
+    count = length-set cells n y;
+    back = boxes-back _ y stays;
+    stop = record {
+      in_range = rw (length-map, length-set) lt;
+      stop = rw (here y) h;
+      growth = rw (here y, before) stays.growth;
+    };
+  }
+
+-- ---- visits after others
+
+module _ {P : Type 0} (seen : P → BoxPicture) (t : Identity) (a b c : List (NodeCell P))
+    (h : AreVisited seen t a b) where
+  pub visited-both : AreVisited seen t b c → AreVisited seen t a c
+  visited-both k = record {
+    cells = k.cells;
+    count = k.count ∙ h.count;
+    back = given-both _ _ _ h.back k.back;
+    growth = growths-both _ _ _ (all-born seen t b h.cells) h.back k.back h.growth k.growth;
+  }
+
+  pub stopped-both : (n : ℕ) (s : StopCause) → AreStoppedAt seen n s b c → AreStoppedAt seen n s a c
+  stopped-both n s k = record {
+    count = k.count ∙ h.count;
+    back = given-both _ _ _ h.back k.back;
+    stop = stops-both _ _ _ (all-born seen t b h.cells) h.back k.back h.growth n s k.stop;
   }

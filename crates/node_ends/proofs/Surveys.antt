@@ -1,7 +1,8 @@
 -- The cells after a survey, whose seats know what they knew.
-use Rattle.node_ends.proofs.Imports.{AreAll, AreCells, AreSurveyed, AtHome, BoxPicture, EachSeat, Identity, IsAtWork, IsBack, IsCellOf, IsSeatOf, List, MayBegin, NodeBody, NodeCell, NodeSeat, NodeStatus, StoredAs, Surveyed, [], ap, arith, at_map, bodies_of, body_of, boxes_in, cell_ports, get_elem?, length, length-map, map, map-map, refl, seats_of, some, some-injective, subst, suc, sym, view, views, ℕ, ◌∙◌, ◌∷◌, ◌≡◌, ◌≢◌}
+use Rattle.node_ends.proofs.Imports.{AreAll, AreCells, AreSurveyed, AtHome, BoxPicture, EachSeat, GivenBack, Identity, IsAtWork, IsBack, IsCellOf, IsSeatOf, List, MayBegin, NodeBody, NodeCell, NodeSeat, NodeStatus, StoredAs, Surveyed, [], ap, arith, at_map, bodies_of, body_of, boxes_in, cell_ports, get_elem?, length, length-map, map, map-map, refl, seats_of, some, some-injective, subst, suc, sym, view, views, ℕ, ◌∙◌, ◌∷◌, ◌≡◌, ◌≢◌}
 use Rattle.node_ends.proofs.Lists.{below, there}
 use Rattle.node_ends.proofs.Visits.{stored-cell}
+use Rattle.node_ends.specs.RunEnds.{AreVisited, GrowthsStay}
 use Rattle.node_cells.specs.Cells.{CellHolds, CellNodeHolds, IsHome}
 use Rattle.exec_laws.specs.declared.edges.DueCall.{DueCall}
 use Rattle.exec_laws.specs.declared.edges.DueCall.TheVariants as call
@@ -137,17 +138,27 @@ module _ {P : Type 0} (t : Identity) (olds news : List (NodeCell P)) (h : AreSur
           sym (map-map f body_of news) ∙ (ap (map f) h.bodies ∙ map-map f body_of olds)
 
       -- so what is true of them before is true after it
-      pub surveyed-holds : (Q : List BoxPicture → Type 0) → Q (boxes_in seen olds)
+      surveyed-holds : (Q : List BoxPicture → Type 0) → Q (boxes_in seen olds)
           → Q (boxes_in seen news)
       surveyed-holds Q h = subst Q (sym surveyed-boxes) h
 
       -- the cells are still those of all nodes
-      pub surveyed-cells : AreCells seen t olds → AreCells seen t news
+      surveyed-cells : AreCells seen t olds → AreCells seen t news
       surveyed-cells all = record {
         count = surveyed-count ∙ all.count;
         graph = rw surveyed-count all.graph;
         each = λ n c e. let w = cell-was n c e in subst (IsCellOf seen t n) (sym w.2)
             (back-is seen t w.0 c.seat w.3 n (all.each n w.0 w.1));
+      }
+
+      -- and what visits before it left is left
+      pub surveyed-visited : (first : List (NodeCell P)) → AreVisited seen t first olds
+          → AreVisited seen t first news
+      surveyed-visited first v = record {
+        cells = surveyed-cells v.cells;
+        count = surveyed-count ∙ v.count;
+        back = surveyed-holds (GivenBack _) v.back;
+        growth = surveyed-holds (GrowthsStay _) v.growth;
       }
 
 -- cells were taken apart, their seats surveyed, and put together again

@@ -2,7 +2,8 @@
 use Rattle.node_ends.specs.Prelude.{AreEdgesOf, AreSettled, Board, BoxPicture, CellPicture, EachSeat, EndRoom, HoldsGraph, Identity, IsBack, IsStored, NodeBody, NodeCell, NodeSeat, SurveyRoom, WholeCell, Wire, cell_ports, is_waiting, turn_picture, view, whole_at}
 use Rattle.exec_laws.specs.declared.edges.NodeStatus.TheVariants as node
 use Rattle.task_queue.specs.Queues.{IsPassOf}
-use Rattle.std.specs.Prelude.{List, [], false, length, map, vec_capacity, ℕ, ◌≡◌, ◌≢◌, ◌≤◌}
+use Rattle.std.specs.Prelude.{List, Vec, [], false, length, map, vec_capacity, ℕ, ◌≡◌, ◌≢◌, ◌≤◌}
+use Rattle.std.specs.declared.alloc.Global.{Global}
 use mathlib.Core.Option.{some}
 use lib.ListN.{get_elem?}
 
@@ -64,12 +65,22 @@ pub record AreSurveyed {P : Type 0} (t : Identity) (old new : List (NodeCell P))
   pub bodies : bodies_of new ≡ bodies_of old
   pub seats : EachSeat (IsBack t) (seats_of old) (seats_of new)
 
+-- the list was emptied, and has no less room
+pub record IsEmptied {V : Type 0} (old new : Vec V Global) : Type 0 where
+  pub empty : new.items ≡ []
+  pub room : vec_capacity old ≤ vec_capacity new
+
+-- empty lists with room for the parts of so many cells
+pub record HaveRoomFor {P : Type 0} (count : ℕ) (bodies : Vec (NodeBody P) Global)
+    (seats : Vec NodeSeat Global) : Type 0 where
+  pub no_bodies : bodies.items ≡ []
+  pub no_seats : seats.items ≡ []
+  pub bodies_room : count ≤ vec_capacity bodies
+  pub seats_room : count ≤ vec_capacity seats
+
 -- room for so many cells, and for the words of the table
 pub record IsSurveyRoom {P : Type 0} (t : Identity) (count : ℕ) (r : SurveyRoom P) : Type 0 where
-  pub no_bodies : r.bodies.items ≡ []
-  pub no_seats : r.seats.items ≡ []
-  pub bodies : count ≤ vec_capacity r.bodies
-  pub seats : count ≤ vec_capacity r.seats
+  pub parts : HaveRoomFor count r.bodies r.seats
   pub words : length r.words.items ≡ t.id.words
 
 -- the same, and for the report of a stuck run, with a queue

@@ -1,9 +1,11 @@
 -- What each end of a run says of the boxes.
+use Rattle.exec_laws.specs.Names.{GivenBack}
 use Rattle.node_cells.specs.Stops.{GrowthStays, StopHolds}
 use Rattle.node_cells.specs.declared.stop_cause.StopCause.{StopCause}
-use Rattle.node_ends.specs.Prelude.{BoxPicture, IsDone, IsStuck, NodesEnd, Wire, box_at}
+use Rattle.node_ends.specs.CellLists.{AreCells, boxes_in}
+use Rattle.node_ends.specs.Prelude.{BoxPicture, Identity, IsDone, IsStuck, NodeCell, NodesEnd, Wire, box_at}
 use Rattle.node_ends.specs.declared.node_ends.NodesEnd.TheVariants as end
-use Rattle.std.specs.Prelude.{List, None, Some, length, ℕ, ◌<◌}
+use Rattle.std.specs.Prelude.{List, None, Some, length, ℕ, ◌<◌, ◌≡◌}
 
 -- what calls that stop nothing leave of the growths that the boxes keep
 abbrev pub GrowthsStay : (before after : List BoxPicture) → Type 0
@@ -15,6 +17,21 @@ pub record StopsAt (n : ℕ) (s : StopCause) (before after : List BoxPicture) : 
   pub in_range : n < length after
   pub stop : StopHolds s (box_at after n)
   pub growth : GrowthStays (Some s) (box_at before n) (box_at after n)
+
+module _ {P : Type 0} (seen : P → BoxPicture) where
+  -- visits that stopped nothing left these cells of all nodes: the boxes are given back, and keep
+  -- their growths
+  pub record AreVisited (t : Identity) (old new : List (NodeCell P)) : Type 0 where
+    pub cells : AreCells seen t new
+    pub count : length new ≡ length old
+    pub back : GivenBack (boxes_in seen old) (boxes_in seen new)
+    pub growth : GrowthsStay (boxes_in seen old) (boxes_in seen new)
+
+  -- the run is stopped at a node, and the boxes are given back
+  pub record AreStoppedAt (n : ℕ) (s : StopCause) (old new : List (NodeCell P)) : Type 0 where
+    pub count : length new ≡ length old
+    pub back : GivenBack (boxes_in seen old) (boxes_in seen new)
+    pub stop : StopsAt n s (boxes_in seen old) (boxes_in seen new)
 
 -- the end of a run in which nothing is pending
 abbrev pub SettledEndHolds : NodesEnd → List Wire → List BoxPicture → Type 0

@@ -2,7 +2,7 @@
 ghost use Rattle.std.specs.Prelude.{◌≡◌, ◌≤◌, [], IfOk, length, vec_capacity};
 ghost use Rattle.exec_table.specs.Seats.{identity_of};
 ghost use Rattle.exec_table.specs.Surveys.{AreAll, Surveyed, views};
-ghost use Rattle.node_ends.specs.CellLists.{AreSurveyed, IsSurveyRoom, bodies_of, seats_of};
+ghost use Rattle.node_ends.specs.CellLists.{AreSurveyed, HaveRoomFor, IsEmptied, IsSurveyRoom, bodies_of, seats_of};
 
 use chunk_data::Memory;
 use exec_laws::NodeMark;
@@ -60,14 +60,10 @@ fn take_apart<P: Drop>(
     bodies: &mut Vec<NodeBody<P>>,
     seats: &mut Vec<NodeSeat>,
 )
-    requires no_bodies { bodies.old.items ≡ [] }
-    requires no_seats { seats.old.items ≡ [] }
-    requires bodies_room { length cells.old.items ≤ vec_capacity bodies.old }
-    requires seats_room { length cells.old.items ≤ vec_capacity seats.old }
+    requires { HaveRoomFor (length cells.old.items) bodies.old seats.old }
     ensures bodies { bodies.new.items ≡ bodies_of cells.old.items }
     ensures seats { seats.new.items ≡ seats_of cells.old.items }
-    ensures cells { cells.new.items ≡ [] }
-    ensures room { vec_capacity cells.old ≤ vec_capacity cells.new }
+    ensures cells { IsEmptied cells.old cells.new }
     ensures bodies_room { vec_capacity bodies.old ≤ vec_capacity bodies.new }
     ensures seats_room { vec_capacity seats.old ≤ vec_capacity seats.new }
 {
@@ -98,11 +94,9 @@ fn put_together<P: Drop>(
     requires one_each { length seats.old.items ≡ length bodies.old.items }
     ensures bodies { bodies_of cells.new.items ≡ bodies.old.items }
     ensures seats { seats_of cells.new.items ≡ seats.old.items }
-    ensures no_bodies { bodies.new.items ≡ [] }
-    ensures no_seats { seats.new.items ≡ [] }
+    ensures no_bodies { IsEmptied bodies.old bodies.new }
+    ensures no_seats { IsEmptied seats.old seats.new }
     ensures room { vec_capacity cells.old ≤ vec_capacity cells.new }
-    ensures bodies_room { vec_capacity bodies.old ≤ vec_capacity bodies.new }
-    ensures seats_room { vec_capacity seats.old ≤ vec_capacity seats.new }
 {
     for _node in 0..bodies.len() {
         let NodeBody {

@@ -5,7 +5,7 @@ ghost use Rattle.exec_table.specs.Seats.{identity_of, sizes_in};
 ghost use Rattle.node_cells.specs.Stops.{StopHolds, stop_of};
 ghost use Rattle.node_cells.specs.Turns.{Stays};
 ghost use Rattle.node_ends.specs.CellLists.{AreAtRest, AreCells, IsBetweenVisits, IsEndRoomFor, IsSettled, IsSurveyRoom, boxes_in, wholes_of};
-ghost use Rattle.node_ends.specs.RunEnds.{GrowthsStay, NodesEndHolds, SettledEndHolds, StopsAt};
+ghost use Rattle.node_ends.specs.RunEnds.{AreStoppedAt, AreVisited, NodesEndHolds, SettledEndHolds};
 ghost use Rattle.task_queue.specs.Queues.{IsPassOf};
 
 use crate::cells_survey::{SurveyRoom, new_survey_room, survey_cells};
@@ -151,13 +151,9 @@ fn visit_at<P: Processor, R: Wait>(
     requires in_range { n < length cells.old.items }
     requires cells { AreCells P.seen (identity_of table.now) cells.old.items }
     ensures pass { IsPassOf queue.now tasks.new.pass }
-    ensures back { GivenBack (boxes_in P.seen cells.old.items) (boxes_in P.seen cells.new.items) }
-    ensures count { length cells.new.items ≡ length cells.old.items }
-    ensures ok { OnOk result (AreCells P.seen (identity_of table.now) cells.new.items) }
-    ensures growth { OnOk result
-        (GrowthsStay (boxes_in P.seen cells.old.items) (boxes_in P.seen cells.new.items)) }
-    ensures stop { IfErr result (λ s.
-        StopsAt n s (boxes_in P.seen cells.old.items) (boxes_in P.seen cells.new.items)) }
+    ensures ok { OnOk result
+        (AreVisited P.seen (identity_of table.now) cells.old.items cells.new.items) }
+    ensures stop { IfErr result (λ s. AreStoppedAt P.seen n s cells.old.items cells.new.items) }
 {
     visit(rt, table, queue, tasks, &mut cells[n], is_charged)
 }
@@ -174,13 +170,10 @@ fn visit_all<P: Processor, R: Wait>(
     requires pass { IsPassOf queue.now tasks.old.pass }
     requires cells { AreCells P.seen (identity_of table.now) cells.old.items }
     ensures pass { IsPassOf queue.now tasks.new.pass }
-    ensures back { GivenBack (boxes_in P.seen cells.old.items) (boxes_in P.seen cells.new.items) }
-    ensures count { length cells.new.items ≡ length cells.old.items }
-    ensures ok { OnOk result (AreCells P.seen (identity_of table.now) cells.new.items) }
-    ensures growth { OnOk result
-        (GrowthsStay (boxes_in P.seen cells.old.items) (boxes_in P.seen cells.new.items)) }
-    ensures stop { IfErr result (λ at.
-        StopsAt at.0 at.1 (boxes_in P.seen cells.old.items) (boxes_in P.seen cells.new.items)) }
+    ensures ok { OnOk result
+        (AreVisited P.seen (identity_of table.now) cells.old.items cells.new.items) }
+    ensures stop { IfErr result
+        (λ at. AreStoppedAt P.seen at.0 at.1 cells.old.items cells.new.items) }
 {
     for n in 0..cells.len() {
         let is_charged = n + 1 < words.len() && words[n + 1] != 0;
@@ -205,13 +198,12 @@ fn settle<P: Processor, R: Wait>(
     requires cells { AreCells P.seen (identity_of table.now) cells.old.items }
     requires some { 0 < length cells.old.items }
     requires room { IsSurveyRoom (identity_of table.now) (length cells.old.items) room.old }
-    ensures back { GivenBack (boxes_in P.seen cells.old.items) (boxes_in P.seen cells.new.items) }
     ensures settled { OnOk result
         (IsSettled (sizes_in table.now).wires (wholes_of P.seen cells.new.items)) }
-    ensures growth { OnOk result
-        (GrowthsStay (boxes_in P.seen cells.old.items) (boxes_in P.seen cells.new.items)) }
-    ensures stop { IfErr result (λ at.
-        StopsAt at.0 at.1 (boxes_in P.seen cells.old.items) (boxes_in P.seen cells.new.items)) }
+    ensures visited { OnOk result
+        (AreVisited P.seen (identity_of table.now) cells.old.items cells.new.items) }
+    ensures stop { IfErr result
+        (λ at. AreStoppedAt P.seen at.0 at.1 cells.old.items cells.new.items) }
 {
     let backoff = Backoff::new();
     for _ in rt.forever() {

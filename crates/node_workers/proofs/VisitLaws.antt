@@ -11,8 +11,7 @@ use Rattle.exec_table.specs.declared.rule.WorkerSeat.{WorkerSeat}
 use Rattle.node_cells.proofs.StayLaws.{growth-both}
 use Rattle.node_cells.proofs.VisitLaws.{lies-seat}
 use Rattle.node_cells.specs.Stops.{stop_of}
-use Rattle.node_cells.specs.Turns.{Stays}
-use Rattle.node_cells.specs.Visits.{LiesAs, Visits, run_end_of}
+use Rattle.node_cells.specs.Visits.{LeavesCell, Visits, run_end_of}
 use Rattle.node_cells.specs.declared.cell.NodeCell.{NodeCell}
 use Rattle.node_cells.specs.declared.stop_cause.StopCause.{StopCause}
 use Rattle.node_cells.specs.declared.node_run.RunEnd.{RunEnd}
@@ -31,10 +30,9 @@ leave-itself p = record {
 
 module _ {P : Type 0} (seen : P → BoxPicture) (t : Identity) (named : ℕ → BoxPicture) where
   visit-fits : (n : ℕ) (a b : NodeCell P) (o : Option StopCause) → CellFits t named seen n a None
-      → Stays seen o a b → ((seen a.processor).spec ≡ None → b ≡ a) → LiesAs seen t o b
-      → CellFits t named seen n b o
-  visit-fits n a b o h s blank lies =
-      let seat = lies-seat seen t o b lies in record {
+      → LeavesCell seen t o a b → CellFits t named seen n b o
+  visit-fits n a b o h left =
+      let s = left.stays in let seat = lies-seat seen t o b left.lies in record {
         seat = seat;
         number = seat.number ∙ (s.ports.number ∙ (sym h.seat.number ∙ h.number));
         edges = subst (λ l. AreEdgesOf t.sizes.wires n l b.ports.outputs.items)
@@ -45,22 +43,21 @@ module _ {P : Type 0} (seen : P → BoxPicture) (t : Identity) (named : ℕ → 
           born = λ x. stays-both (named n) (seen a.processor) (seen b.processor) (h.box.born x)
               s.box;
           unborn = λ none. let same = h.box.unborn none in
-              ap (λ c. seen c.processor) (blank (ap (λ p. p.spec) same ∙ none)) ∙ same;
+              ap (λ c. seen c.processor) (left.blank (ap (λ p. p.spec) same ∙ none)) ∙ same;
           growth = growth-both o (named n) (seen a.processor) (seen b.processor) s.box.same
               h.box.growth s.growth;
         };
-        lies = lies;
+        lies = left.lies;
       }
 
   -- a cell that was visited fits where it fitted
   pub visited-fits : (u : Identity) (n : ℕ) (a b : NodeCell P) (was is o : Option StopCause) → u ≡ t
-      → was ≡ None → is ≡ o → CellFits t named seen n a was → Stays seen o a b
-      → ((seen a.processor).spec ≡ None → b ≡ a) → LiesAs seen u o b
+      → was ≡ None → is ≡ o → CellFits t named seen n a was → LeavesCell seen u o a b
       → CellFits t named seen n b is
-  visited-fits u n a b was is o same none now h s blank lies =
+  visited-fits u n a b was is o same none now h left =
       subst (λ x. CellFits t named seen n b x) (sym now)
-      (visit-fits n a b o (subst (λ x. CellFits t named seen n a x) none h) s blank
-      (subst (λ z. LiesAs seen z o b) same lies))
+      (visit-fits n a b o (subst (λ x. CellFits t named seen n a x) none h)
+      (subst (λ z. LeavesCell seen z o a b) same left))
 
 module _ {P : Type 0} (seen : P → BoxPicture) (t : Identity) (q : TaskQueue) (a b : NodeCell P)
     (before after : WorkerTasks) where

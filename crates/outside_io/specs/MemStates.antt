@@ -1,5 +1,5 @@
 -- What contracts see of the readers and sinks in memory, and what these answer.
-use Rattle.std.specs.Prelude.{ℕ, ◌-◌, ◌==◌, min, if◌then◌else◌, List, [], length, Option, Some, None, Result, Ok, Err, unwrap_or}
+use Rattle.std.specs.Prelude.{ℕ, ◌-◌, ◌==◌, ◌≡◌, min, if◌then◌else◌, List, [], length, Option, Some, None, Result, Ok, Err, unwrap_or}
 use Rattle.outside_io.specs.declared.entries.Failed.{Failed}
 use Rattle.outside_io.specs.declared.entries.Fake.{Fake}
 use Rattle.outside_io.specs.declared.entries.FakeKind.{FakeKind}
@@ -8,7 +8,7 @@ use Rattle.outside_io.specs.declared.entries.FileEntry.{FileEntry}
 use Rattle.outside_io.specs.declared.entries.Got.{Got}
 use Rattle.outside_io.specs.declared.entries.Got.TheVariants.{Bytes, End, Pending}
 use Rattle.outside_io.specs.Counts.{one_more}
-use Rattle.outside_io.specs.Told.{told_content, reader_place}
+use Rattle.outside_io.specs.Told.{GivesNext, StandsAtEnd, moved_by, told_content, reader_place}
 use Rattle.outside_io.specs.Scripts.{next_fake}
 
 -- files in memory, where the reader stands, its counts, its script, and how many of its calls were
@@ -43,6 +43,16 @@ abbrev pub read_answer : Option FakeKind → ℕ → ℕ → Result Got Failed
 read_answer (Some Fail) room left = Err (record {})
 read_answer (Some Pend) room left = Ok Pending
 read_answer None room left = Ok (block_got room left)
+
+-- what one read put into a buffer, and the state after it
+abbrev pub MemBlockGiven : (x y : FilesState) → List ℕ → Result Got Failed → Type 0
+MemBlockGiven x y buffer (Ok (Bytes n)) = GivesNext (Some x.files) x.position n buffer
+    × (y ≡ record (one_call_more x) { position = moved_by n x.position })
+MemBlockGiven x y buffer (Ok End) =
+    StandsAtEnd (Some x.files) x.position × (y ≡ one_call_more x)
+MemBlockGiven x y buffer (Ok Pending) =
+    y ≡ record (one_call_more x) { pendings = one_more x.pendings }
+MemBlockGiven x y buffer (Err e) = y ≡ record (one_call_more x) { faults = one_more x.faults }
 
 -- a sink in memory: the bytes taken, how many it takes a call and in all, and its faults
 pub record SinkState : Type 0 where

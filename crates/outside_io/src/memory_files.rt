@@ -1,9 +1,8 @@
 ghost use Rattle.std.specs.Prelude.{◌≡◌, ◌<◌, ◌≤◌, ◌-◌, min, length, take, drop, Some, None, IfSome, IfNone, IsSome, IsNone, IsOk, OnOk, OnErr, ◌↔◌};
-ghost use Rattle.outside_io.specs.MemStates.{one_call_more, fake_of, bytes_left, read_answer};
-ghost use Rattle.outside_io.specs.Told.{told_bytes, moved_by, GivesNext, StandsAtEnd};
+ghost use Rattle.outside_io.specs.MemStates.{MemBlockGiven, one_call_more, fake_of, bytes_left, read_answer};
+ghost use Rattle.outside_io.specs.Told.{told_bytes};
 ghost use Rattle.outside_io.specs.Counts.{one_more};
 ghost use Rattle.outside_io.specs.Scripts.{IsRising};
-ghost use Rattle.outside_io.specs.Reads.{OnBytes, OnEnd, OnPending};
 ghost use Rattle.outside_io.specs.MemEntries.{IsEntryOf};
 
 use crate::entries::{Failed, Fake, FakeKind, FileEntry, Got};
@@ -100,13 +99,12 @@ impl MemFiles {
 impl FileReader for MemFiles {
     ghost use Rattle.std.specs.Prelude.{Some};
 
-    ghost files = { λ s. Some s.files };
-
-    ghost position = { λ s. s.position };
-
-    ghost faults = { λ s. s.faults };
-
-    ghost pendings = { λ s. s.pendings };
+    ghost reader = { λ s. record {
+      files = Some s.files;
+      position = s.position;
+      faults = s.faults;
+      pendings = s.pendings;
+    } };
 
     fn open_path(&mut self, path: &Bytes) -> Result<(), Failed>
         ensures exact { IsOk result ↔
@@ -139,17 +137,7 @@ impl FileReader for MemFiles {
         requires room { 0 < length buf.old }
         ensures answer { result ≡
             read_answer (fake_of self.old) (length buf.old) (bytes_left self.old) }
-        ensures bytes { OnBytes result
-            (λ n. GivesNext (Some self.old.files) self.old.position n buf.new) }
-        ensures moved { OnBytes result
-            (λ n. self.new
-            ≡ record (one_call_more self.old) { position = moved_by n self.old.position }) }
-        ensures end { OnEnd result (StandsAtEnd (Some self.old.files) self.old.position) }
-        ensures at_end { OnEnd result (self.new ≡ one_call_more self.old) }
-        ensures pending { OnPending result
-            (self.new ≡ record (one_call_more self.old) { pendings = one_more self.old.pendings }) }
-        ensures fault { OnErr result
-            (self.new ≡ record (one_call_more self.old) { faults = one_more self.old.faults }) }
+        ensures gives { MemBlockGiven self.old self.new buf.new result }
         ensures stays_open { IsSome self.new.position }
         ensures faults_kept { self.old.faults ≤ self.new.faults }
         ensures pendings_kept { self.old.pendings ≤ self.new.pendings }

@@ -32,10 +32,12 @@ where
 {
     /// A reader of the system's files, none of which stands open.
     pub fn new(rt: R) -> RealFiles<R>
-        ensures told { ⟦<RealFiles<R> as FileReader>⟧.files result ≡ None }
-        ensures closed { ⟦<RealFiles<R> as FileReader>⟧.position result ≡ None }
-        ensures faults { ⟦<RealFiles<R> as FileReader>⟧.faults result ≡ 0 }
-        ensures pendings { ⟦<RealFiles<R> as FileReader>⟧.pendings result ≡ 0 }
+        ensures { ⟦<RealFiles<R> as FileReader>⟧.reader result ≡ record {
+          files = None;
+          position = None;
+          faults = 0;
+          pendings = 0;
+        } }
     {
         RealFiles {
             rt,
@@ -91,13 +93,12 @@ where
     ghost use Rattle.std.specs.Prelude.{None};
     ghost use Rattle.std.specs.Option.{option_map};
 
-    ghost files = { λ _. None };
-
-    ghost position = { λ s. option_map (λ o. (o.path, o.place)) s.opened };
-
-    ghost faults = { λ s. s.faults };
-
-    ghost pendings = { λ _. 0 };
+    ghost reader = { λ s. record {
+      files = None;
+      position = option_map (λ o. (o.path, o.place)) s.opened;
+      faults = s.faults;
+      pendings = 0;
+    } };
 
     fn open_path(&mut self, path: &Bytes) -> Result<(), Failed> {
         self.opened = open_file(&self.rt, path);

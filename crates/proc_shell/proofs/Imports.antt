@@ -12,7 +12,7 @@ pub use Rattle.proc_api.specs.Names.{AllInputsEnded, AllOutputsClosed, AreCounts
 pub use Rattle.proc_api.specs.declared.status.Status.TheVariants.{Finished, NeedData, Ready}
 pub use Rattle.proc_shell.specs.Kernels.{HasEnough, HasSamePorts, Leaves, LetsPush, Means, NotesNoEnd, SourceStage, gathered_own, gathered_with, gathering, part_kernel, rows_if_some, unread, with_chunk}
 pub use Rattle.std.specs.Prelude.{◌↔◌}
-pub use Rattle.proc_shell.specs.Names.{AllOutputsFinished, AreMoved, ArePortsOf, AreWantedEmpty, AreWantedOver, Begins, ChangesInput, ChangesInputs, Continues, CountsRows, Err, Fails, HasNoRoom, HasOpen, HasSpecPorts, IfErr, IfSome, IsBegun, IsFreeOutput, IsKernelOf, IsOutOfRoom, IsReadOut, IsShelled, IsTrue, IsValid, IsWanted, IsWantedFull, IsWorkOf, KernelState, Makes, MayMake, Moves, Nothing, OfferComes, Offers, Ok, OnOk, Prepared, Pushes, Reads, ShellFails, ShellPrepares, ShellWorks, Takes, Turns, WantsMore, WorksHeld, asked, file_in, growth_in, held_made, held_option, held_unworked, is_wanted, kind_of, may_hold, option_map, shell_state, shut_open, unasked, work_of}
+pub use Rattle.proc_shell.specs.Names.{AllOutputsFinished, AreMoved, ArePortsOf, AreWantedEmpty, AreWantedOver, Begins, ChangesInput, ChangesInputs, Continues, CountsRows, Err, Fails, HasNoRoom, HasOpen, HasSpecPorts, IfErr, IfSome, IsBegun, IsFreeOutput, IsKernelOf, IsOutOfRoom, IsReadOut, IsShelled, IsTrue, IsValid, IsWanted, IsWantedFull, IsWorkOf, KernelState, Makes, MayMake, Moves, Nothing, OfferComes, Offers, Ok, OnOk, Prepared, Pushes, Reads, RunsTurn, ShellFails, ShellPrepares, ShellWorks, Takes, WantsMore, WorksHeld, asked, file_in, growth_in, held_made, held_option, held_unworked, is_wanted, kind_of, may_hold, option_map, shell_state, shut_open, unasked, work_of}
 pub use Rattle.proc_shell.specs.Prelude.{BadPlace, Held, Made, Offer, PartSpec, Result, Status, TurnsInput, Unworked, Wake, WorkFault, grown_inputs, is_in_finished, needing}
 pub use Rattle.proc_shell.specs.Shells.{LoadedShell, MakesHeld, Passes, ReaderView, ShutsShell, TakesHeld, files_by, loaded_seen, noted_by, shell_seen, with_view}
 pub use Rattle.proc_shell.specs.Steps.{held_rows, source_of}

@@ -1,5 +1,5 @@
 -- A prepare that works at once what it pulled is two prepares and a work between them.
-use Rattle.proc_shell.proofs.Imports.{AreAsKept, AreMoved, Bool, BoxPicture, Continues, CountsRows, FollowsKept, HasReadEnough, HasSpecPorts, Held, IsKernelOf, IsRunning, IsSound, IsWorkOf, Keeps, KernelState, Kind, List, LoadedShell, Option, PassesOn, Picture, PreparesLawfully, Pushes, ReaderView, Ready, RowCount, ShellPrepares, ShellWorks, Some, Spec, Status, StaysFit, Table, Takes, Turns, Unworked, WorksHeld, [], all_port_flags, and_parts, ap, ap₂, arith, changed-by-both, common_steps, enough-more, follows-noted, goes-on, growth_in, held_made, held_option, held_unworked, in_count, is_wanted, lists-pulled, lists-pushed, loaded_seen, ltb-true, nat_lt, out_count, position-still, pulled-both, refl, rows-both, rows_pulled, shell_state, source_of, subst, sym, true, with_pulled, with_pushed, with_view, work_of, ℕ, ◌&&◌, ◌++◌, ◌<◌, ◌∙◌, ◌∷◌, ◌≡◌, ◌≤◌}
+use Rattle.proc_shell.proofs.Imports.{AreAsKept, AreMoved, Bool, BoxPicture, FollowsKept, HasReadEnough, HasSpecPorts, Held, IsKernelOf, IsRunning, IsSound, IsWorkOf, Keeps, KernelState, Kind, List, LoadedShell, Option, PassesOn, Picture, PreparesLawfully, Pushes, ReaderView, Ready, RowCount, RunsTurn, ShellPrepares, ShellWorks, Some, Spec, Status, StaysFit, Table, Takes, Unworked, WorksHeld, [], all_port_flags, and_parts, ap, ap₂, arith, changed-by-both, common_steps, enough-more, follows-noted, goes-on, growth_in, held_made, held_option, held_unworked, in_count, is_wanted, lists-pulled, lists-pushed, loaded_seen, ltb-true, nat_lt, out_count, position-still, pulled-both, refl, rows-both, shell_state, source_of, subst, sym, true, with_pulled, with_pushed, with_view, work_of, ℕ, ◌&&◌, ◌++◌, ◌<◌, ◌∙◌, ◌∷◌, ◌≡◌, ◌≤◌}
 use Rattle.proc_shell.proofs.BoxLaws.{held-source, held-worked, limits-stay, passes-once, works-part}
 use Rattle.proc_shell.proofs.PortMoves.{kept-count, outs-count, same-ports}
 
@@ -131,17 +131,17 @@ pub record PassesChunks (x : KernelState) : Type 0 where
 
 -- chunks are moved by one turn
 pub turns-once : (k : Kind) (x y : KernelState) (h i j : Held) (n m : RowCount) (v u w : Picture)
-    (s : Status) → Continues k x y j → HasSpecPorts x v → out_count v ≤ 16 → Pushes h i v u
-    → Turns x y.own i j u w s → CountsRows (rows_pulled u w) n m → AreMoved k x h v n y j w m s
-turns-once k x y h i j n m v u w s so ports few pushes turns counts = λ notes.
-    passes-once k (shell_state x h notes) (shell_state y j (with_view w s notes)) n m v w s so few
-    ports
+    (s : Status) → HasSpecPorts x v → out_count v ≤ 16 → Pushes h i v u
+    → RunsTurn k x y i j n m u w s → AreMoved k x h v n y j w m s
+turns-once k x y h i j n m v u w s ports few pushes turn = λ notes.
+    passes-once k (shell_state x h notes) (shell_state y j (with_view w s notes)) n m v w s
+    turn.continues few ports
     (record {
       held = i;
       view = u;
       pushes = pushes;
-      turns = turns;
-      counts = counts;
+      turns = turn.turns;
+      counts = turn.counts;
       notes = refl;
     })
 
@@ -149,23 +149,21 @@ turns-once k x y h i j n m v u w s so ports few pushes turns counts = λ notes.
 pub turns-again : (k : Kind) (wants : ℕ → Bool) (makes : Bool) (p a : LoadedShell) (y : KernelState)
     (i h : Held) (n m l : RowCount) (v u t w : Picture) (r s : Status) → PassesChunks a.kernel
     → r ≡ Ready → HasSpecPorts p.kernel v → out_count v ≤ 16
-    → is_wanted wants makes a.held ≡ true → PassesOn a.held i u t → Continues k a.kernel y h
-    → Turns a.kernel y.own i h t w s → CountsRows (rows_pulled t w) m l
-    → ShellPrepares k p v n a u m r → ShellPrepares k p v n
-    (shell_state y h (with_view w s a.notes)) w l s
-turns-again k wants makes p a y i h n m l v u t w r s passes ready ports few wanted on so turns
-    counts so-far =
+    → is_wanted wants makes a.held ≡ true → PassesOn a.held i u t
+    → RunsTurn k a.kernel y i h m l t w s → ShellPrepares k p v n a u m r
+    → ShellPrepares k p v n (shell_state y h (with_view w s a.notes)) w l s
+turns-again k wants makes p a y i h n m l v u t w r s passes ready ports few wanted on turn so-far =
     prepares-twice k p a b (shell_state y h (with_view w s a.notes)) n m l v u w s on.sound first
     work
-    (passes-once k b (shell_state y h (with_view w s a.notes)) m l u w s so
+    (passes-once k b (shell_state y h (with_view w s a.notes)) m l u w s turn.continues
     (omega (arith, few, (goes-on v u first.changed).outs))
     (still-ports k p a n m v u Ready first ports)
     (record {
       held = i;
       view = t;
       pushes = subst (λ z. Pushes waits z u t) (sym on.after) on.pushes;
-      turns = turns;
-      counts = counts;
+      turns = turn.turns;
+      counts = turn.counts;
       notes = refl;
     }))
   where
@@ -197,8 +195,8 @@ turns-again k wants makes p a y i h n m l v u t w r s passes ready ports few wan
     work = record {
       continues = record {
         kernel = refl;
-        kind = so.kind;
-        shelled = so.shelled;
+        kind = turn.continues.kind;
+        shelled = turn.continues.shelled;
         uses = rw (held-source (Some on.chunk), held-worked (Some on.chunk))
             (passes.waits on.input on.chunk (held_made waits) uses);
       };

@@ -120,6 +120,13 @@ pub record Continues (k : Kind) (x y : KernelState) (h : Held) : Type 0 where
   pub shelled : IsShelled x.spec
   pub uses : IsWorkOf (Some x.spec) (work_of y (source_of h) (held_unworked h) (held_made h))
 
+-- a turn of a kernel: how it and what is held go on, and the rows that it counts
+pub record RunsTurn (k : Kind) (x y : KernelState) (i j : Held) (n m : RowCount) (v w : Picture)
+    (s : Status) : Type 0 where
+  pub continues : Continues k x y j
+  pub turns : Turns x y.own i j v w s
+  pub counts : CountsRows (rows_pulled v w) n m
+
 -- a prepare: what every box owes, and what a lawful one owes, whatever its reader is
 pub record ShellPrepares (k : Kind) (p : LoadedShell) (v : Picture) (n : RowCount) (q : LoadedShell)
     (w : Picture) (m : RowCount) (s : Status)

@@ -1,22 +1,14 @@
-use Rattle.expr_eval.proofs.Imports.{Some, ap, compared, is_text, number_of, passes, plain_of, plain_value, sym, type_of_number, value_of, ◌∙◌, ◌≡◌}
+use Rattle.expr_eval.proofs.Imports.{Some, ap, compared, number_of, passes, plain_of, plain_value, sym, type_of_number, value_of, ◌∙◌, ◌≡◌, arith}
 use Rattle.expr_eval.proofs.Onto.{same_maps}
 use Rattle.expr_eval.proofs.Operands.{plain_value_of}
 use Rattle.expr_eval.proofs.Comparisons.{plain_is_number}
 use Rattle.expr_eval.proofs.condition.plain_operands.Goals as goal
 
 pub plain_compared-requires-clause-not_text : goal.plain_compared-requires-clause-not_text
-plain_compared-requires-clause-not_text c =
-    let e : plain_of c.args.left.now ≡ Some (number_of c.in-Some.n) =
-    rw c.in-Some.is at c.plain_number.ensures in
-    sym c.requires.alike ∙ ap is_text (type_of_number c.args.chunk.now.types c.args.left.now _ e)
-    ∙ plain_is_number (number_of c.in-Some.n)
+plain_compared-requires-clause-not_text c = grind (arith, type_of_number, plain_is_number)
 
 pub number_compared-requires-clause-not_text : goal.number_compared-requires-clause-not_text
-number_compared-requires-clause-not_text c =
-    let e : plain_of c.args.right.now ≡ Some (number_of c.in-Some-plain_number.k) =
-    rw c.in-Some-plain_number.is at c.plain_number-in-None.ensures in
-    c.requires.alike ∙ ap is_text (type_of_number c.args.chunk.now.types c.args.right.now _ e)
-    ∙ plain_is_number (number_of c.in-Some-plain_number.k)
+number_compared-requires-clause-not_text c = grind (arith, type_of_number, plain_is_number)
 
 pub returns-in_ok-mask-in-Some : goal.returns-in_ok-mask-in-Some
 returns-in_ok-mask-in-Some c =

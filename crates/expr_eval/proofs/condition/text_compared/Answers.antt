@@ -1,4 +1,4 @@
-use Rattle.expr_eval.proofs.Imports.{Text, compared, get_or_default, length, number_of, passes, refl, text_cmp, type_of, value_at, value_of, ◌<◌, ◌∙◌}
+use Rattle.expr_eval.proofs.Imports.{Text, compared, get_or_default, passes, refl, text_cmp, type_of, value_at, value_of, ◌<◌, ◌∙◌, arith}
 use Rattle.expr_eval.proofs.Onto.{each_is}
 use Rattle.expr_eval.proofs.Applied.{masked_one}
 use Rattle.expr_eval.proofs.Operands.{arith_not_text, text_type}
@@ -7,17 +7,11 @@ use Rattle.expr_eval.proofs.condition.text_compared.Goals as goal
 
 pub texts-requires : goal.texts-requires
 unfolding type_of
-texts-requires c =
-    let lt : c.in-Column.c < length c.args.chunk.now.types =
-    rw c.in-Column.is at c.requires.typed in
-    c.column-column.ensures.kind ∙ get_or_default c.args.chunk.now.types c.in-Column.c _ _ lt
-    ∙ text_type _ (rw c.in-Column.is at c.requires.is_text)
+texts-requires c = grind (arith, get_or_default, text_type)
 
 pub unreachable-requires : goal.unreachable-requires
 unfolding type_of
-unreachable-requires c =
-    let e = rw c.in-Number.is at c.requires.is_text in
-    let f = plain_is_number (number_of c.in-Number.field-0) in absurd cc
+unreachable-requires c = grind (arith, plain_is_number)
 
 pub unreachable-requires-in-Arith : goal.unreachable-requires-in-Arith
 unfolding type_of

@@ -1,4 +1,4 @@
-use Rattle.expr_eval.proofs.Imports.{None, Some, ap, arith_type, arith_value, number_of, plain_of, plain_value, sym, type_before, type_behind, type_of, type_of_number, value_of, ◌∙◌, ◌≡◌}
+use Rattle.expr_eval.proofs.Imports.{Some, ap, arith_type, arith_value, number_of, plain_of, plain_value, sym, type_before, type_behind, type_of, type_of_number, value_of, ◌∙◌, ◌≡◌, arith}
 use Rattle.expr_eval.proofs.Onto.{same_maps}
 use Rattle.expr_eval.proofs.Operands.{plain_before, plain_behind, plain_value_of}
 use Rattle.expr_eval.proofs.expression.arith.Goals as goal
@@ -25,13 +25,7 @@ returns-in_ok-column-in-Some-clause-values c =
 pub returns-in_ok-column-in-Some-plain_number-clause-kind :
     goal.returns-in_ok-column-in-Some-plain_number-clause-kind
 returns-in_ok-column-in-Some-plain_number-clause-kind c =
-    let d : plain_of c.args.left.now ≡ None = rw c.in-None.is at c.plain_number.ensures in
-    let e : plain_of c.args.right.now ≡ Some (number_of c.in-Some-plain_number.m) =
-    rw c.in-Some-plain_number.is at c.plain_number-in-None.ensures in
-    let held = plain_behind _ _ _ _ _ d e c.requires.alike in
-    c.in_ok-column-in-Some-plain_number.ensures.kind
-    ∙ sym (ap (arith_type c.args.op (type_of c.args.left.now c.args.chunk.now.types))
-    (type_of_number c.args.chunk.now.types c.args.right.now _ e) ∙ type_behind c.args.op _ _ held)
+    grind (arith, plain_behind, type_of_number, type_behind)
 
 pub returns-in_ok-column-in-Some-plain_number-clause-values :
     goal.returns-in_ok-column-in-Some-plain_number-clause-values

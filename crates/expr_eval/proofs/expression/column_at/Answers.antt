@@ -1,4 +1,4 @@
-use Rattle.expr_eval.proofs.Imports.{get_or_default, length, type_of, value_of, ◌<◌, ◌∙◌}
+use Rattle.expr_eval.proofs.Imports.{get_or_default, type_of, value_of, ◌<◌, ◌∙◌, arith}
 use Rattle.expr_eval.proofs.expression.column_at.Goals as goal
 
 pub column-requires : goal.column-requires
@@ -6,9 +6,7 @@ column-requires c = rw c.in-Column.is at c.requires.typed
 
 pub returns-in-Column-clause-kind : goal.returns-in-Column-clause-kind
 unfolding type_of
-returns-in-Column-clause-kind c = let lt : c.in-Column.c < length c.args.chunk.now.types =
-    rw c.in-Column.is at c.requires.typed in rw c.in-Column.is
-    (c.column.ensures.kind ∙ get_or_default c.args.chunk.now.types c.in-Column.c _ _ lt)
+returns-in-Column-clause-kind c = grind (arith, get_or_default)
 
 pub returns-in-Column-clause-values : goal.returns-in-Column-clause-values
 unfolding value_of

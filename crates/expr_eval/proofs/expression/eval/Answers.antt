@@ -1,4 +1,4 @@
-use Rattle.expr_eval.proofs.Imports.{get_or_default, length, type_of, value_of, ◌<◌, ◌∙◌}
+use Rattle.expr_eval.proofs.Imports.{get_or_default, type_of, value_of, ◌<◌, ◌∙◌, arith}
 use Rattle.expr_eval.proofs.expression.eval.Goals as goal
 
 pub column-requires : goal.column-requires
@@ -6,13 +6,8 @@ column-requires c = rw c.in-Column.is at c.requires.typed
 
 pub returns-in_ok-column-in-Column-clause-kind : goal.returns-in_ok-column-in-Column-clause-kind
 unfolding type_of
-returns-in_ok-column-in-Column-clause-kind c =
-    let lt : c.in-Column.c < length c.args.chunk.now.types =
-    rw c.in-Column.is at c.requires.typed in
-    rw c.in-Column.is (c.in_ok-column-in-Column.ensures.kind ∙ c.column.ensures.kind
-    ∙ get_or_default c.args.chunk.now.types c.in-Column.c _ _ lt)
+returns-in_ok-column-in-Column-clause-kind c = grind (arith, get_or_default)
 
 pub returns-in_ok-column-in-Column-clause-values : goal.returns-in_ok-column-in-Column-clause-values
 unfolding value_of
-returns-in_ok-column-in-Column-clause-values c =
-    rw c.in-Column.is (c.in_ok-column-in-Column.ensures.values ∙ c.column.ensures.values)
+returns-in_ok-column-in-Column-clause-values c = grind arith

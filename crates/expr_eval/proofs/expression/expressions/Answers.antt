@@ -9,7 +9,7 @@ returns-in-Some-clause-values c =
     arith_value c.args.op (value_of c.args.left.now row) (value_of c.args.right.now row))
     c.args.chunk.now.rows
     c.in_ok-changed-in-Some.ensures.values (made_values c.args.left.now c.args.chunk.now
-    c.in-Some.column (rw c.in-Some.is at c.requires.left_made)) c.column_at-there.ensures.values
+    c.in-Some.column (rw c.in-Some.is at c.requires.left.column)) c.column_at-there.ensures.values
     (λ row. refl)
 
 pub returns-clause-values : goal.returns-clause-values

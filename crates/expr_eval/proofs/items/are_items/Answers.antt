@@ -1,4 +1,4 @@
-use Rattle.expr_eval.proofs.Imports.{All, All-more, IsItem, arith, refl, subst, take_all}
+use Rattle.expr_eval.proofs.Imports.{All-more, IsItem, arith, subst, take_all}
 use Rattle.expr_eval.proofs.items.are_items.Goals as goal
 
 pub loop-expr-preserved : goal.loop-expr-preserved
@@ -8,8 +8,4 @@ loop-expr-preserved c =
     (subst (IsItem c.args.types.now) c.expr-item.is (c.is_item.ensures.0 c.if-not-is_item.false))
 
 pub returns : goal.returns
-returns c = (
-  λ t. subst (All (IsItem c.args.types.now)) (take_all c.loop-expr.expr-index c.args.exprs.now
-      (omega (arith, c.loop-expr-test.false))) c.loop-expr.invariant,
-  λ all. refl,
-)
+returns c = grind (arith, take_all)

@@ -1,4 +1,4 @@
-use Rattle.expr_eval.proofs.Imports.{AreLong_of_made, ap, arith, column_type, map, rows_of_made, take_all, type_of, value_of, values, ◌∙◌, ◌≡◌}
+use Rattle.expr_eval.proofs.Imports.{AreLong_of_made, ap, arith, map, rows_of_made, take_all, value_of, values, ◌∙◌, ◌≡◌}
 use Rattle.expr_eval.proofs.items.eval_items.Goals as goal
 
 pub of_columns-requires : goal.of_columns-requires
@@ -10,10 +10,7 @@ of_columns-requires c =
     AreLong_of_made value_of c.args.items.now c.args.chunk.now.rows _ _ made c.rows.ensures.count
 
 pub returns-in-Ok-clause-types : goal.returns-in-Ok-clause-types
-returns-in-Ok-clause-types c =
-    c.in-Ok.ensures.types ∙ ap (map column_type) c.from_vec.ensures ∙ c.loop-item.invariant.0
-    ∙ ap (map (λ e. type_of e c.args.chunk.now.types))
-    (take_all c.loop-item.item-index c.args.items.now (omega arith))
+returns-in-Ok-clause-types c = grind (arith, take_all)
 
 pub returns-in-Ok-clause-rows : goal.returns-in-Ok-clause-rows
 returns-in-Ok-clause-rows c =

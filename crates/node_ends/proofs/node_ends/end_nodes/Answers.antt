@@ -11,4 +11,4 @@ returns-then-len-eq0-clause-end g c =
 
 pub returns-in-Ok-clause-end : goal.returns-in-Ok-clause-end
 returns-in-Ok-clause-end g c = settled-ends c.settled_end.result _ _ _ c.settled_end.ensures
-    c.in-Ok.ensures.growth
+    c.in-Ok.ensures.visited.growth

@@ -1,6 +1,5 @@
 use Rattle.node_ends.proofs.Imports.{identity_of}
-use Rattle.node_ends.proofs.CellChanges.{boxes-back, cells-changed, growths-changed, own-cell, stops-at}
-use Rattle.std.proofs.lemmas.Result.{on_ok_weaker}
+use Rattle.node_ends.proofs.CellChanges.{own-cell, stops-at, visited-at}
 use Rattle.node_ends.proofs.node_ends.visit_at.Goals as goal
 
 pub visit-requires-clause-cell : goal.visit-requires-clause-cell
@@ -8,21 +7,11 @@ visit-requires-clause-cell g c κs within = (own-cell g.P.Processor.seen
     (identity_of c.args.table.now) c.args.cells.now.items c.args.n _ c.requires.cells
     c.requires.in_range c.index_mut.ensures.value).between
 
-pub returns-clause-back : goal.returns-clause-back
-returns-clause-back g c = boxes-back g.P.Processor.seen (identity_of c.args.table.now)
-    c.args.cells.now.items c.args.n _ c.requires.cells c.requires.in_range
-    c.index_mut.ensures.value _ c.visit.new.cell c.visit.ensures.stays
-
 pub returns-clause-ok : goal.returns-clause-ok
-returns-clause-ok g c = on_ok_weaker c.visit.result (cells-changed g.P.Processor.seen
-    (identity_of c.args.table.now) c.args.cells.now.items c.args.n _ c.requires.cells
-    c.requires.in_range c.index_mut.ensures.value _ c.visit.new.cell c.visit.ensures.stays)
-    c.visit.ensures.ok
-
-pub returns-clause-growth : goal.returns-clause-growth
-returns-clause-growth g c = growths-changed g.P.Processor.seen (identity_of c.args.table.now)
+returns-clause-ok g c = visited-at g.P.Processor.seen (identity_of c.args.table.now)
     c.args.cells.now.items c.args.n _ c.requires.cells c.requires.in_range
     c.index_mut.ensures.value c.visit.result c.visit.new.cell c.visit.ensures.stays
+    c.visit.ensures.ok
 
 pub returns-clause-stop : goal.returns-clause-stop
 returns-clause-stop g c = stops-at g.P.Processor.seen (identity_of c.args.table.now)

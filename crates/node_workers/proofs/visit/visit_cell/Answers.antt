@@ -17,7 +17,7 @@ returns-clause-fits g c = let ran = c.visit_node-ran.ensures in
     visited-fits g.P.Processor.seen g.J.Naming.identity g.J.Naming.named
     (identity_of c.args.table.now) _ c.args.named.now.cell c.visit_node-ran.new.cell
     c.args.named.now.stopped _ _ c.requires.table c.in-None.is c.stop_of-cause.ensures
-    c.requires.fits ran.stays ran.blank ran.lies
+    c.requires.fits ran.leaves
 
 pub returns-clause-stops : goal.returns-clause-stops
 returns-clause-stops g c = λ d. c.stop_for.ensures.told (λ n. d (n ∙ sym c.in-None.is))

@@ -5,8 +5,8 @@ use Rattle.proc_shell.proofs.turns.move_chunks.Goals as goal
 
 pub loop-next-init : goal.loop-next-init
 loop-next-init g c = (
-  turns-once _ _ _ _ _ _ _ _ _ _ _ _ c.run_turn-status.ensures.same c.requires.ports c.requires.few
-      c.push_made.ensures c.run_turn-status.ensures.turns c.run_turn-status.ensures.counts,
+  turns-once _ _ _ _ _ _ _ _ _ _ _ _ c.requires.ports c.requires.few c.push_made.ensures
+      c.run_turn-status.ensures.takes,
   c.run_turn-status.ensures.wanted,
   c.run_turn-status.ensures.ready,
   search rules,
@@ -14,7 +14,7 @@ loop-next-init g c = (
     arith,
     c.requires.few_in,
     c.push_made.ensures.ins,
-    c.run_turn-status.ensures.turns.moves.ins,
+    c.run_turn-status.ensures.takes.turns.moves.ins,
   ),
 )
 
@@ -30,7 +30,7 @@ loop-next-preserved g c =
           ((g.met.K.Kernel.of_kind l.kernel).1 ∙ sym c.kind.ensures)
           ∙ sym c.kind_row.ensures.passes ∙ of))
           ready c.requires.ports c.requires.few l.invariant.1 c.if-not-pass_on.ensures
-          t.ensures.same t.ensures.turns t.ensures.counts (l.invariant.0 notes),
+          t.ensures.takes (l.invariant.0 notes),
       t.ensures.wanted,
       t.ensures.ready,
       search rules,

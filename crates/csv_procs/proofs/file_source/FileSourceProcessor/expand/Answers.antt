@@ -6,9 +6,8 @@ use Rattle.csv_procs.proofs.file_source.FileSourceProcessor.expand.Goals as goal
 pub returns-clause-ok : goal.returns-clause-ok
 returns-clause-ok g c = elim c.match-grow.branch [
   | in-Ok w ↦
-      let R = g.R.FileReader in
       let F = g.K.FileKernel in
-      let r = c.self.inside.reader in
+      let r = g.R.FileReader.reader c.self.inside.reader in
       let l = c.in-Some.loaded in
       let x = w.in-Ok.ensures.grows in
       let shows = g.met.K.FileKernel.shows in
@@ -27,10 +26,10 @@ returns-clause-ok g c = elim c.match-grow.branch [
         ← g.met.K.FileKernel.kinds,
         x.is_list,
         x.old_is,
-      ) (by-paths (R.files r) (R.position r) (R.faults r) (R.pendings r) c.self.inside.pulled
+      ) (by-paths r.files r.position r.faults r.pendings c.self.inside.pulled
       (F.part_of l.kernel) l.held l.notes w.in-Ok.growth
       (rw (← c.self.view_is, c.in-Some.is) at c.requires.expanding.0) running.faultless x.before
-      x.valid x.ungrown x.names_path x.is (tied-now (R.files r) (R.position r) true
+      x.valid x.ungrown x.names_path x.is (tied-now r.files r.position true
       (F.part_of l.kernel) (Paths x.before) l.held l.notes
       (rw (c.in-Some.is, shows l.kernel, x.is_list, x.old_is) at c.self.invariant)
       running.faultless))

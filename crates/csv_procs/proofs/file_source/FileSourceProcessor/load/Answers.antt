@@ -18,10 +18,9 @@ returns-then-ne-clause-refused g c =
 
 pub returns-in-Ok-clause-ok : goal.returns-in-Ok-clause-ok
 returns-in-Ok-clause-ok g c =
-    let R = g.R.FileReader in
-    let r = c.self.inside.reader in
+    let r = g.R.FileReader.reader c.self.inside.reader in
     let blank = is-none c.self.inside.loaded (sym c.is_some.ensures ∙ c.if-is_some.false) in
     rw (← c.self.view_is, blank) (loads g.K.Kernel.kind_is
-    (reads (R.files r) (R.faults r) (R.pendings r)) c.self.inside.pulled _ None _ _ refl
+    (reads r.files r.faults r.pendings) c.self.inside.pulled _ None _ _ refl
     (sym c.kind.ensures ∙ differs_false kinds.the_type tt c.kind.result c.kind-2.result
     (sym c.ne.ensures ∙ c.if-ne.false) ∙ c.kind-2.ensures) c.in-Ok.ensures c.begin.ensures)

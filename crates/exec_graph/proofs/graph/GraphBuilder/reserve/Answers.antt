@@ -35,8 +35,8 @@ invariant_of-self g c =
           old.wires old.reserves r old.well_formed
           (omega (arith, nodes, length-replicate {A = ℕ} (length new) 0)) edges);
       reserves_fit = rw (ranks, reserves, len) (reserve-added (length old.ranks) 0 old.wires
-          old.reserves old.reserves_fit r c.requires.expander_added c.requires.no_reserve refl
-          (omega arith));
+          old.reserves old.reserves_fit r c.requires.expander.added c.requires.expander.none_kept
+          refl (omega arith));
     }
 
 pub returns-in-Ok-append-clause-starting : goal.returns-in-Ok-append-clause-starting
