@@ -324,21 +324,14 @@ rank-tells types keys told a b r s o f t h k tied =
 row_ranks_tell : (types : List ColumnType) (keys : List SortKey) (x y : Row) (a b : Ranked)
     (o : Ordering) → FitOneType types keys x y → AreRanks types keys x a
     → AreRanks types keys y b → o ≡ row_cmp (keys_tied types keys a) x y
-    → ordering_then (nat_cmp a.first b.first) (ordering_then (nat_cmp a.second b.second)
-    (ordering_then (nat_cmp a.third b.third) o)) ≡ row_cmp keys x y
+    → ordering_then (nat_cmp a.first b.first) (ordering_then (nat_cmp a.second b.second) o)
+    ≡ row_cmp keys x y
 row_ranks_tell types keys x y a b o f h g tied =
     rank-tells types keys 0 x y a.first b.first _ f (none-told keys x y) h.first g.first
     (λ e one. rank-tells types (left a.first) (told a.first) x y a.second b.second _ one.fits
     one.alike h.second
     (subst (λ n. IsRank (left n) (told n) y b.second) (sym e) g.second)
-    (λ i two. rank-tells types (keys_left types (left a.first) a.second)
-    (bytes_told types (left a.first) (told a.first) a.second) x y a.third b.third _ two.fits
-    two.alike h.third
-    (subst (λ m. IsRank (keys_left types (left a.first) m)
-    (bytes_told types (left a.first) (told a.first) m) y b.third) (sym i)
-    (subst (λ n. IsRank (keys_left types (left n) b.second)
-    (bytes_told types (left n) (told n) b.second) y b.third) (sym e) g.third))
-    (λ j three. tied)))
+    (λ i two. tied))
   where
     left : ℕ → List SortKey
     left n = keys_left types keys n
@@ -347,19 +340,13 @@ row_ranks_tell types keys x y a b o f h g tied =
     told n = bytes_told types keys 0 n
 
 -- ranks that were found in turn
-pub has_ranks : (t : Table) (keys behind last : List SortKey) (r : Ranked) (n m : ℕ)
+pub has_ranks : (t : Table) (keys behind : List SortKey) (r : Ranked) (n : ℕ)
     → r.place < length t.rows → IsRank keys 0 (row_at t.rows r.place) r.first
     → behind ≡ keys_left t.types keys r.first → n ≡ bytes_told t.types keys 0 r.first
-    → IsRank behind n (row_at t.rows r.place) r.second
-    → last ≡ keys_left t.types behind r.second → m ≡ bytes_told t.types behind n r.second
-    → IsRank last m (row_at t.rows r.place) r.third → HasRanks t keys r
-has_ranks t keys behind last r n m within first b p second l q third = record {
+    → IsRank behind n (row_at t.rows r.place) r.second → HasRanks t keys r
+has_ranks t keys behind r n within first b p second = record {
   within = within;
-  ranks = record {
-    first = first;
-    second = rw (sym b, sym p) second;
-    third = rw (sym b, sym p, sym l, sym q) third;
-  };
+  ranks = record { first = first; second = rw (sym b, sym p) second };
 }
 
 -- ---- the order by which places are sorted
@@ -426,19 +413,16 @@ module _ {A : Type 0} (f : A → ℕ) (R : ℕ → A → A → Ordering) where
 pub ranked_total : (t : Table) (keys : List SortKey) → IsTotalOrder (ranked_cmp t t keys)
 ranked_total t keys =
     given-total (λ (r : Ranked). r.first)
-    (λ n a b. ordering_then (nat_cmp a.second b.second) (ordering_then (nat_cmp a.third b.third)
-    (by_place n a.second a.third a b)))
-    (λ n. given-total (λ (r : Ranked). r.second)
-    (λ m a b. ordering_then (nat_cmp a.third b.third) (by_place n m a.third a b))
-    (λ m. given-total (λ (r : Ranked). r.third) (by_place n m)
-    (λ k. on_total ranked_place (then_total (on_total (λ i. leb (length t.rows) i) bool_cmp_total)
-    (on_total (row_at t.rows) (row_cmp_total (tied n m k)))))))
+    (λ n a b. ordering_then (nat_cmp a.second b.second) (by_place n a.second a b))
+    (λ n. given-total (λ (r : Ranked). r.second) (by_place n)
+    (λ m. on_total ranked_place (then_total (on_total (λ i. leb (length t.rows) i) bool_cmp_total)
+    (on_total (row_at t.rows) (row_cmp_total (tied n m))))))
   where
-    tied : ℕ → ℕ → ℕ → List SortKey
-    tied n m k = keys_left t.types (keys_left t.types (keys_left t.types keys n) m) k
+    tied : ℕ → ℕ → List SortKey
+    tied n m = keys_left t.types (keys_left t.types keys n) m
 
-    by_place : ℕ → ℕ → ℕ → Ranked → Ranked → Ordering
-    by_place n m k a b = place_cmp (tied n m k) t.rows t.rows a.place b.place
+    by_place : ℕ → ℕ → Ranked → Ranked → Ordering
+    by_place n m a b = place_cmp (tied n m) t.rows t.rows a.place b.place
 
 -- ranks and then the keys that are left tell what the keys do, of rows of two tables
 pub ranks_tell : (t u : Table) (keys : List SortKey) → IsTable t → IsTable u
@@ -675,7 +659,7 @@ module _ (t : Table) (keys : List SortKey) where
       tells = ranks_tell t t keys fit fit refl (λ m key less. let both = agree m key less in both.0)
 
       no_rank : Ranked
-      no_rank = record { first = 0; second = 0; third = 0; place = 0 }
+      no_rank = record { first = 0; second = 0; place = 0 }
 
       sorted : IsSortedBy lt xs
       sorted = λ k d low high.

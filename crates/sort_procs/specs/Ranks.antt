@@ -75,20 +75,16 @@ bytes_told types keys told r = cond (is_exact types keys r) 0 (told + 7)
 
 -- the keys at which rows of the same ranks may differ
 abbrev pub keys_tied : List ColumnType → List SortKey → Ranked → List SortKey
-keys_tied types keys r =
-    keys_left types (keys_left types (keys_left types keys r.first) r.second) r.third
+keys_tied types keys r = keys_left types (keys_left types keys r.first) r.second
 
 abbrev pub ranked_place : Ranked → ℕ
 ranked_place r = r.place
 
--- a row's ranks, each of which goes on where those before it end
+-- a row's ranks, of which the second goes on where the first ends
 pub record AreRanks (types : List ColumnType) (keys : List SortKey) (row : Row) (r : Ranked)
     : Type 0 where
   pub first : IsRank keys 0 row r.first
   pub second : IsRank (keys_left types keys r.first) (bytes_told types keys 0 r.first) row r.second
-  pub third : IsRank (keys_left types (keys_left types keys r.first) r.second)
-      (bytes_told types (keys_left types keys r.first) (bytes_told types keys 0 r.first) r.second)
-      row r.third
 
 -- one of the rows, with its ranks
 pub record HasRanks (t : Table) (keys : List SortKey) (r : Ranked) : Type 0 where
@@ -109,8 +105,7 @@ place_cmp keys left right i j =
 abbrev pub ranked_cmp : (left right : Table) → List SortKey → Ranked → Ranked → Ordering
 ranked_cmp left right keys a b =
     ordering_then (nat_cmp a.first b.first) (ordering_then (nat_cmp a.second b.second)
-    (ordering_then (nat_cmp a.third b.third)
-    (place_cmp (keys_tied left.types keys a) left.rows right.rows a.place b.place)))
+    (place_cmp (keys_tied left.types keys a) left.rows right.rows a.place b.place))
 
 -- whether one row of a table comes before another
 abbrev pub is_ranked_before : Table → List SortKey → Ranked → Ranked → Bool

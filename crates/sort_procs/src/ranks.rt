@@ -9,15 +9,14 @@ use chunk_data::{Chunk, Column, Memory, PlainSlice, SortKey};
 use std::alloc::Global;
 use std::cmp::Ordering;
 
-/// A row by its place, with three ranks that go before the keys. The first is that of the first
-/// key, and each of the others goes on where the one before it ends: at the next key, or within a
-/// text at the bytes behind those that it tells. So each is lower only where the row comes first,
-/// among rows that have the ranks before it.
+/// A row by its place, with two ranks that go before the keys. The first is that of the first key,
+/// and the second goes on where it ends: at the next key, or within a text at the bytes behind
+/// those that it tells. So each is lower only where the row comes first, the second among rows that
+/// have the same first.
 #[derive(Clone, Copy, PartialEq, Eq)]
 pub(crate) struct Ranked {
     pub(crate) first: u64,
     pub(crate) second: u64,
-    pub(crate) third: u64,
     pub(crate) place: usize,
 }
 
@@ -184,13 +183,9 @@ fn rank_row(rows: &Chunk, keys: &[SortKey], place: usize) -> Ranked
     let behind = keys_left(rows, keys, first);
     let told = bytes_told(rows, keys, 0, first);
     let second = rank_of(rows, behind, told, place);
-    let last = keys_left(rows, behind, second);
-    let last_told = bytes_told(rows, behind, told, second);
-    let third = rank_of(rows, last, last_told, place);
     Ranked {
         first,
         second,
-        third,
         place,
     }
 }
@@ -270,12 +265,9 @@ pub(crate) fn compare_ranked(
 {
     match a.first.cmp(&b.first) {
         Ordering::Equal => match a.second.cmp(&b.second) {
-            Ordering::Equal => match a.third.cmp(&b.third) {
-                Ordering::Equal => {
-                    compare_places(left, right, tied_keys(left, keys, a), a.place, b.place)
-                }
-                unequal => unequal,
-            },
+            Ordering::Equal => {
+                compare_places(left, right, tied_keys(left, keys, a), a.place, b.place)
+            }
             unequal => unequal,
         },
         unequal => unequal,
@@ -288,9 +280,7 @@ fn tied_keys<'a>(rows: &Chunk, keys: &'a [SortKey], ranked: Ranked) -> &'a [Sort
     ensures tied { result.now ≡ keys_tied rows.now.types keys.now ranked }
     ensures keys { All (AgreeOnKey rows.now.types rows.now.types) result.now }
 {
-    let behind = keys_left(rows, keys, ranked.first);
-    let last = keys_left(rows, behind, ranked.second);
-    keys_left(rows, last, ranked.third)
+    keys_left(rows, keys_left(rows, keys, ranked.first), ranked.second)
 }
 
 // How rows of two chunks compare by the keys. Places past the last row come behind all others.
