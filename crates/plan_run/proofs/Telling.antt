@@ -223,14 +223,15 @@ plan-runs specs kept before taken left rack after ended t l g h =
     }
 
 pub plan-gives-back : (kinds : List Kind) (before taken left rack after : List BoxPicture)
-    → taken ≡ taken_for kinds before → left ≡ left_after kinds before
+    → HasStock kinds before → taken ≡ taken_for kinds before → left ≡ left_after kinds before
     → GivesUnloaded after left rack → AreLater taken after → GivesBack kinds before rack
-plan-gives-back kinds before taken left rack after t l g h =
+plan-gives-back kinds before taken left rack after stock t l g h =
     let later : AreLater (taken_for kinds before) after =
     subst (λ boxes. AreLater boxes after) t h in
     let taken_len : length (taken_for kinds before) ≡ length kinds = taken-length kinds before in
     let after_len : length after ≡ length kinds = later.count ∙ taken_len in
     record {
+      stock = stock;
       given = g.given;
       rack = g.rack ∙ ap (λ l. l ++ g.given) l;
       count = g.unloaded.count ∙ after_len;
@@ -260,11 +261,12 @@ module _ (specs : List Spec) (kept : List Kind) (before after ended : List BoxPi
   ]
 
   -- and it was given back
-  pub runs-give-back : GivesBack kinds before after
-  runs-give-back =
+  pub runs-give-back : HasStock kinds before → GivesBack kinds before after
+  runs-give-back stock =
       let count = run.count in
       let all = kinds-length specs kept in
       record {
+        stock = stock;
         given = run.given;
         rack = run.rack;
         count = run.given_count ∙ run.count ∙ sym all;

@@ -1,5 +1,5 @@
 -- What a run of a plan tells: how it ended, of which boxes, and what the rack has afterwards.
-use Rattle.std.specs.Prelude.{◌≡◌, ◌⊎◌, ℕ, ◌+◌, ◌-◌, ◌<◌, ◌≤◌, ◌++◌, List, length, map, nat_le, slice_index_or, Some, ⊤}
+use Rattle.std.specs.Prelude.{All, ◌≡◌, ◌⊎◌, ℕ, ◌+◌, ◌-◌, ◌<◌, ◌≤◌, ◌++◌, List, length, map, nat_le, slice_index_or, Some, ⊤}
 use Rattle.chunk_data.specs.Values.{Table}
 use Rattle.query_model.specs.Kinds.{kind_of}
 use Rattle.query_model.specs.declared.processor_spec.Spec.{Spec}
@@ -13,8 +13,9 @@ use Rattle.proc_api.specs.Names.{BoxPicture, IsBlank, IsSourceKind, HasNoReader,
 use Rattle.proc_api.specs.declared.status.WorkFault.{WorkFault}
 use Rattle.exec_laws.specs.Names.{box_at, IsDone, IsFault, IsStuck}
 use Rattle.exec_laws.specs.declared.edges.StuckNode.{StuckNode}
-use Rattle.plan_run.specs.Stock.{taken_for, left_after}
+use Rattle.plan_run.specs.Stock.{HasStock, taken_for, left_after}
 use Rattle.plan_run.specs.declared.run.GraphForm.{GraphForm}
+use Rattle.plan_run.specs.declared.run.PlanGraph.{PlanGraph}
 use Rattle.plan_run.specs.declared.run.PlanFault.{PlanFault}
 use Rattle.plan_run.specs.declared.run.PlanFault.TheVariants as end
 
@@ -45,6 +46,12 @@ pub record MayRun (nodes boxes : ℕ) (g : GraphForm) (workers : ℕ) : Type 0 w
   pub graph : KeepsBehind nodes g
   pub some_workers : 1 ≤ workers
   pub few_workers : workers ≤ 16
+
+-- so many workers may run the plan by boxes of a rack, which are blank
+pub record MayRunPlan (p : PlanGraph) (workers : ℕ) (rack : List BoxPicture) : Type 0 where
+  pub blank : All IsBlank rack
+  pub stock : HasStock (kinds_taken p.specs.items p.kept) rack
+  pub graph : MayRun (length p.specs.items) (length p.specs.items + length p.kept) p.form workers
 
 -- ---- the boxes
 
@@ -84,9 +91,11 @@ pub record IsBlankAgain (p q : BoxPicture) : Type 0 where
 abbrev pub taken_at : List Kind → List BoxPicture → ℕ → BoxPicture
 taken_at kinds before n = box_at (taken_for kinds before) n
 
--- The first box of each kind in turn was taken from the rack. It has the boxes that weren't taken,
--- in their order, and then the taken ones in the order in which they were taken.
+-- The first box of each kind in turn, which was there, was taken from the rack. It has the boxes
+-- that weren't taken, in their order, and then the taken ones in the order in which they were
+-- taken.
 pub record GivesBack (kinds : List Kind) (before after : List BoxPicture) : Type 0 where
+  pub stock : HasStock kinds before
   pub given : List BoxPicture
   pub rack : after ≡ left_after kinds before ++ given
   pub count : length given ≡ length kinds
@@ -166,3 +175,14 @@ PlanFaultHolds (end.Fault node f) B R = B (FailsWith R node f)
 PlanFaultHolds (end.Stuck k) B R = StuckWith R k
 PlanFaultHolds (end.BadGrowth k) B R = B (FlawedWith R k)
 PlanFaultHolds end.Memory B R = ⊤
+
+-- ---- what a run of a plan gives, by the boxes of a rack before and after it
+
+module _ (p : PlanGraph) (before after : List BoxPicture) where
+  abbrev pub PlanGivesRows : List Table → Type 0
+  PlanGivesRows chunks = GraphBegins p.form (kinds_taken p.specs.items p.kept)
+      (GivesRows (RunsPlan p.specs.items p.kept before after) (length p.specs.items) chunks)
+
+  abbrev pub PlanFails : PlanFault → Type 0
+  PlanFails f = PlanFaultHolds f (GraphBegins p.form (kinds_taken p.specs.items p.kept))
+      (RunsPlan p.specs.items p.kept before after)

@@ -4,8 +4,7 @@ ghost use Rattle.proc_api.specs.Names.{handed_out_by, IsBlank};
 ghost use Rattle.proc_api.specs.Reserves.{AreStarting};
 ghost use Rattle.exec_laws.specs.Runs.{IsBorn, box_at};
 ghost use Rattle.pipeline_exec.specs.Ends.{Begun, ExecEndHolds};
-ghost use Rattle.plan_run.specs.Stock.{HasStock};
-ghost use Rattle.plan_run.specs.Plans.{kinds_in, kinds_taken, GraphBegins, KeepsBehind, MayRun, PlanFaultHolds, GivesRows, GivesBack, LeavesRack, ReadsByKind, RunsPlan};
+ghost use Rattle.plan_run.specs.Plans.{kinds_in, kinds_taken, GraphBegins, MayRun, MayRunPlan, PlanFails, PlanFaultHolds, PlanGivesRows, GivesRows, GivesBack, LeavesRack, ReadsByKind};
 ghost use Rattle.plan_run.specs.Steps.{AreLater, AreStill, IsStill, IsThese, RunsLoaded, RunsTaken};
 
 use crate::boxes::{give_back, load_boxes, take_boxes};
@@ -64,29 +63,18 @@ pub fn run_plan<R: AllocGlobal + Threads + Wait + Sync>(
     plan: PlanGraph,
     workers: u32,
 ) -> Result<Vec<Chunk>, PlanFault>
-    requires blank { All IsBlank (map (λ b. seen (b.vtable, b.value)) rack.old.boxes.items) }
-    requires stock { HasStock (kinds_taken plan.specs.items plan.kept)
+    requires runnable { MayRunPlan plan workers
         (map (λ b. seen (b.vtable, b.value)) rack.old.boxes.items) }
-    requires some_nodes { 1 ≤ length plan.specs.items }
-    requires one_each { length plan.form.ranks ≡ length plan.specs.items + length plan.kept }
-    requires graph { KeepsBehind (length plan.specs.items) plan.form }
-    requires some_workers { 1 ≤ workers }
-    requires few_workers { workers ≤ 16 }
     ensures rack { LeavesRack (kinds_taken plan.specs.items plan.kept)
         (map (λ b. seen (b.vtable, b.value)) rack.old.boxes.items)
         (map (λ b. seen (b.vtable, b.value)) rack.new.boxes.items) }
     ensures blank { All IsBlank (map (λ b. seen (b.vtable, b.value)) rack.new.boxes.items) }
-    ensures rows { IfOk result (λ chunks. GraphBegins plan.form
-        (kinds_taken plan.specs.items plan.kept) (GivesRows
-        (RunsPlan plan.specs.items plan.kept
+    ensures rows { IfOk result (λ chunks. PlanGivesRows plan
         (map (λ b. seen (b.vtable, b.value)) rack.old.boxes.items)
-        (map (λ b. seen (b.vtable, b.value)) rack.new.boxes.items))
-        (length plan.specs.items) chunks.items)) }
-    ensures fault { IfErr result (λ f. PlanFaultHolds f
-        (GraphBegins plan.form (kinds_taken plan.specs.items plan.kept))
-        (RunsPlan plan.specs.items plan.kept
+        (map (λ b. seen (b.vtable, b.value)) rack.new.boxes.items) chunks.items) }
+    ensures fault { IfErr result (PlanFails plan
         (map (λ b. seen (b.vtable, b.value)) rack.old.boxes.items)
-        (map (λ b. seen (b.vtable, b.value)) rack.new.boxes.items))) }
+        (map (λ b. seen (b.vtable, b.value)) rack.new.boxes.items)) }
 {
     // The room for the boxes is there before one is taken.
     match Vec::with_capacity(rt.alloc(), plan.specs.len() + plan.kept.len()) {
@@ -103,23 +91,16 @@ fn run_in<R: AllocGlobal + Threads + Wait + Sync>(
     room: Vec<Box<dyn Processor + Send>>,
     workers: u32,
 ) -> Result<Vec<Chunk>, PlanFault>
-    requires blank { All IsBlank (map (λ b. seen b) rack.old.boxes.items) }
-    requires stock { HasStock (kinds_taken plan.specs.items plan.kept)
-        (map (λ b. seen b) rack.old.boxes.items) }
-    requires plan { MayRun (length plan.specs.items)
-        (length plan.specs.items + length plan.kept) plan.form workers }
+    requires runnable { MayRunPlan plan workers (map (λ b. seen b) rack.old.boxes.items) }
     requires empty { room.items ≡ [] }
     requires room { length plan.specs.items + length plan.kept ≤ vec_capacity room }
     ensures rack { GivesBack (kinds_taken plan.specs.items plan.kept)
         (map (λ b. seen b) rack.old.boxes.items) (map (λ b. seen b) rack.new.boxes.items) }
-    ensures rows { IfOk result (λ chunks. GraphBegins plan.form
-        (kinds_taken plan.specs.items plan.kept) (GivesRows
-        (RunsPlan plan.specs.items plan.kept (map (λ b. seen b) rack.old.boxes.items)
-        (map (λ b. seen b) rack.new.boxes.items)) (length plan.specs.items) chunks.items)) }
-    ensures fault { IfErr result (λ f. PlanFaultHolds f
-        (GraphBegins plan.form (kinds_taken plan.specs.items plan.kept))
-        (RunsPlan plan.specs.items plan.kept (map (λ b. seen b) rack.old.boxes.items)
-        (map (λ b. seen b) rack.new.boxes.items))) }
+    ensures rows { IfOk result (λ chunks. PlanGivesRows plan
+        (map (λ b. seen b) rack.old.boxes.items) (map (λ b. seen b) rack.new.boxes.items)
+        chunks.items) }
+    ensures fault { IfErr result (PlanFails plan (map (λ b. seen b) rack.old.boxes.items)
+        (map (λ b. seen b) rack.new.boxes.items)) }
 {
     let mut boxes = room;
     take_boxes(rack, &plan.specs, &plan.kept, &mut boxes);

@@ -1,5 +1,5 @@
 -- From the chunks that a plan's graph gives to the text of one answer of a command.
-use Rattle.query_run.proofs.Imports.{All, All-append, AllPartsValid, AreLawfulOver, Bool, BoxPicture, Checked, ColumnType, Command, DraftNode, Files, GivesText, GrowsLawfully, HasEnded, HasEnoughRows, HasGrown, HasPulled, HasStock, IfSome, IsCertain, IsDone, IsPlain, IsRunnable, IsUngrown, IsValidUsed, KeepsBehind, Kind, List, MakesText, NodeForm, NodePort, None, Option, Plain, PulledMore, PullsItsFlow, QueryAnswered, Row, RunsPlan, SelectPlan, Shape, Some, SortKey, Spec, Stream, [], answer_text, ap, arith, body_nodes, born_wires, both-valid, both_ways, box_at, chunk_rows, collect_node, database, false, flat_map, flow, get_or-map, grown-lists, handed_out_by, heading, if◌then◌else◌, inl, inr, join_use, join_valid, joined-valid, kind_of, kinds_for, kinds_reserved, length, length-append, length-map, lists-valid, map, needed_valid, node_form, order_of, parts_used, plan_nodes, plan_of, plan_valid, planned-ended, ports_of, pulled_rows, refl, reserves_from, rows_text, rows_together, same_kind, shape_of, since-pulled, source_types, sources_of_files, spec_at, specs_in, stream_pulled_at, stream_rows, subst, sym, table-valid, true, ℕ, ◌++◌, ◌+◌, ◌-◌, ◌<◌, ◌∙◌, ◌∷◌, ◌≡◌, ◌⊎◌}
+use Rattle.query_run.proofs.Imports.{All, All-append, AllPartsValid, AreLawfulOver, Bool, BoxPicture, Checked, ColumnType, Command, DraftNode, Files, GivesText, GrowsLawfully, HasEnded, HasEnoughRows, HasGrown, HasPulled, HasStock, IfSome, IsCertain, IsDone, IsPlain, IsRunnable, IsUngrown, IsValidUsed, KeepsBehind, Kind, List, MakesText, NodeForm, NodePort, None, Option, Plain, PulledMore, PullsItsFlow, QueryAnswered, Row, RunsPlan, SelectPlan, Shape, Some, SortKey, Spec, Stream, [], answer_text, ap, arith, body_nodes, born_wires, both-valid, both_ways, box_at, chunk_rows, collect_node, database, false, flat_map, flow, get_or-map, grown-lists, handed_out_by, heading, if◌then◌else◌, inl, inr, join_use, join_valid, joined-valid, kind_of, kinds_for, kinds_reserved, length, length-append, length-map, lists-valid, map, needed_valid, node_form, order_of, parts_used, plan_nodes, plan_of, plan_valid, planned-ended, ports_of, pulled_rows, refl, reserves_from, rows_text, rows_together, same_kind, shape_of, since-pulled, shape_types, source_types, sources_of_files, spec_at, specs_in, stream_pulled_at, stream_rows, subst, sym, table-valid, true, ℕ, ◌++◌, ◌+◌, ◌-◌, ◌<◌, ◌∙◌, ◌∷◌, ◌≡◌, ◌⊎◌}
 use Rattle.query_model.specs.declared.processor_spec.Kind.TheVariants as kind
 use Rattle.query_model.specs.declared.processor_spec.Spec.TheVariants as spec
 use Rattle.query_run.proofs.Causes.{ran}
@@ -104,7 +104,7 @@ module _ {c : Command} {q : Checked} {before after : List BoxPicture} {nodes : L
       done = grown.holds;
     }
 
-    answered : QueryAnswered q c.header files c.tables plan nodes ended has_ended last
+    answered : QueryAnswered q c.header files c.tables c.threads plan nodes ended has_ended last
     answered =
         planned-ended q c.tables c.threads c.chunk_rows c.header files nodes ended has_ended last
         (typed_by_tables c q copies.checked)
@@ -148,7 +148,8 @@ module _ {c : Command} {q : Checked} {before after : List BoxPicture} {nodes : L
       | inl all ↦ inl (all_parts all)
       | inr cut ↦
           elim (cut_or_valid q.shape
-          (source_types c.tables q.from q.join) q.types c.chunk_rows q.order
+          (source_types c.tables q.from q.join)
+          (shape_types q.shape (source_types c.tables q.from q.join)) c.chunk_rows q.order
           (plan_valid (sources_of_files files) plan) (join_valid (sources_of_files files) plan.join)
           cut.needed) [
             | inl all ↦ inl (all_parts all)
@@ -209,7 +210,8 @@ module _ {c : Command} {q : Checked} {before after : List BoxPicture} {nodes : L
         is_answer = answered.answer;
         is = text_is;
       };
-      pulled = λ unlimited k. told-kind k (nodes_pulled k) (answered.pulled unlimited k);
+      pulled = λ unlimited k taken.
+          told-kind k (nodes_pulled k) (answered.pulled unlimited k taken);
       collected = nodes_pulled kind.Collect (length rows) refl refl answered.collected;
     }
 

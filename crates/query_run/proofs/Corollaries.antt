@@ -163,13 +163,14 @@ module _ (before after : List BoxPicture) where
       (plan_stock c q before h.runnable.boxes)) h.ran.runs files told h.node h.in_range)
 
   -- the boxes of a plan that ran were taken and given back
-  gives_back : (c : Command) (q : Checked) → RanPlan c q before after
+  gives_back : (c : Command) (q : Checked) → IsRunnable c q before → RanPlan c q before after
       → GivesBack (plan_kinds c q) before after
-  gives_back c q r =
-      subst (λ ks. GivesBack ks before after)
-      (kinds-for-same r.nodes (plan_nodes (plan_of c q)) r.same)
+  gives_back c q runnable r =
+      let same = kinds-for-same r.nodes (plan_nodes (plan_of c q)) r.same in
+      subst (λ ks. GivesBack ks before after) same
       (runs-give-back (specs_in r.nodes) (kinds_reserved (reserves_from 0 r.nodes)) before after
-      r.ended r.runs)
+      r.ended r.runs (subst (λ ks. HasStock ks before) (sym same)
+      (plan_stock c q before runnable.boxes)))
 
   -- why a plan took no box: too many paths, too few boxes or want of memory
   abbrev TakesNone : PlanFailure → Command → Checked → Type 0
@@ -185,8 +186,8 @@ module _ (before after : List BoxPicture) where
       let there = h.1.there in
       let fewer = h.1.fewer in
       inr (h.2, inr (inr (record { kind = s.kind; fewer = omega (arith, needed, there, fewer) })))
-  plan_left (plan.Part name f) c q h = inl (gives_back c q h.ran)
-  plan_left (plan.Unlawful k) c q h = inl (gives_back c q h.ran)
+  plan_left (plan.Part name f) c q h = inl (gives_back c q h.runnable h.ran)
+  plan_left (plan.Unlawful k) c q h = inl (gives_back c q h.runnable h.ran)
   plan_left plan.Memory c q (inl back) = inl back
   plan_left plan.Memory c q (inr same) = inr (same, inl refl)
 
@@ -325,7 +326,8 @@ module _ (words : List (List ℕ)) (before after : List BoxPicture) (out₀ out 
 
   taken : (text : List ℕ) → OfQuery words (λ c q. MakesText c q text before after)
       → TakesBoxes words before after
-  taken text h = of_query h (gives_back before after h.command h.holds.checked h.holds.holds.ran)
+  taken text h = of_query h (gives_back before after h.command h.holds.checked
+      h.holds.holds.runnable h.holds.holds.ran)
 
   -- whatever the status, the rack has its boxes again
   left_of : (e : Ending) → status ≡ status_of e → Why e → LeavesBoxes words before after status

@@ -24,7 +24,8 @@ pub use Rattle.plan_ends.proofs.Needs.{are_grouped, are_some, are_tested, are_tw
 pub use Rattle.plan_ends.proofs.NodeKinds.{kinds-counted, kinds-same, reserves-same}
 pub use Rattle.plan_ends.proofs.Parts.{IsListOf, IsPartOf, both-valid, in-front, joined-parts, joined-valid, lists-valid, table-parts, table-valid}
 pub use Rattle.plan_ends.proofs.Pulled.{since-pulled}
-pub use Rattle.plan_ends.proofs.Queries.{IsQueryPlan, QueryAnswered, planned-ended, query-plan}
+pub use Rattle.plan_ends.proofs.LaidPlans.{IsQueryPlan}
+pub use Rattle.plan_ends.proofs.Queries.{QueryAnswered, planned-ended, query-plan}
 pub use Rattle.plan_ends.specs.Ended.{HasEnded, HasFullCount, HasPulled, IsStep, KnownPorts, SourceHas, pulled_since, sources_of_files, stream_pulled_at, used_part}
 pub use Rattle.proc_api.specs.SpecContracts.{IsUngrown}
 pub use Rattle.plan_ends.specs.Grown.{GrowsLawfully}
@@ -32,14 +33,15 @@ pub use Rattle.plan_graph.specs.Drafts.{no_draft, ports_of, with_nodes}
 pub use Rattle.plan_graph.specs.declared.nodes.DraftNode.{DraftNode}
 pub use Rattle.plan_graph.specs.declared.nodes.NodePort.{NodePort}
 pub use Rattle.plan_meaning.proofs.PlanGraphs.{IsPlanGraph, plan-graph}
-pub use Rattle.plan_meaning.specs.Names.{HasEnoughRows, IsSmall, NodeForm, SelectPlan, Stream, body_nodes, collect_node, forms, join_valid, needed_valid, node_form, plan_nodes, plan_valid, pulled_rows, rows_together, shape_of, stream_rows}
+pub use Rattle.plan_meaning.specs.Names.{HasEnoughRows, IsSmall, NodeForm, SelectPlan, Stream, body_nodes, collect_node, forms, join_valid, needed_valid, node_form, plan_nodes, plan_valid, pulled_rows, rows_together, shape_of, shape_types, stream_rows}
 pub use Rattle.proc_api.proofs.RackLaws.{kind-at}
 pub use Rattle.plan_run.proofs.Taking.{some-rest, stock-here, stock-step, taken-kinds, taken-length}
 pub use Rattle.plan_run.proofs.Telling.{ended-later, runs-give-back, taken-has}
-pub use Rattle.plan_run.specs.Plans.{FailsWith, FlawedWith, GivesBack, GraphBegins, KeepsBehind, LeavesRack, PlanFaultHolds, RanWith, RunsPlan, kinds_in, kinds_of, kinds_taken, taken_at}
+pub use Rattle.plan_run.specs.Plans.{FailsWith, FlawedWith, GivesBack, GraphBegins, KeepsBehind, LeavesRack, MayRunPlan, PlanFails, PlanFaultHolds, RanWith, RunsPlan, kinds_in, kinds_of, kinds_taken, taken_at}
 pub use Rattle.plan_run.specs.Stock.{HasStock, first_box_of, left_after, taken_for, without_first_box}
 pub use Rattle.plan_run.specs.declared.run.GraphForm.{GraphForm}
 pub use Rattle.plan_run.specs.declared.run.PlanFault.{PlanFault}
+pub use Rattle.plan_run.specs.declared.run.PlanGraph.{PlanGraph}
 pub use Rattle.port_word.specs.declared.flags.Reserve.{Reserve}
 pub use Rattle.port_word.specs.declared.flags.Wire.{Wire}
 pub use Rattle.proc_api.proofs.Graphs.{is-gapless}
@@ -70,7 +72,7 @@ pub use Rattle.query_model.specs.declared.query.Refusal.{Refusal}
 pub use Rattle.query_model.specs.declared.query.Schema.{Schema}
 pub use Rattle.query_model.specs.declared.query.TableDecl.{TableDecl}
 pub use Rattle.query_run.specs.Endings.{Writes, piece_bytes}
-pub use Rattle.query_run.specs.Names.{AreLawfulOver, AreRefused, Ending, Ends, EndsEarly, EndsFor, EndsUnlawful, FailsAtPart, FailsFor, Failure, GivesText, HasBoxes, IsAccepted, IsAnswerable, IsCertain, IsCheckedCommand, IsEither, IsFileNamed, IsHonest, IsListNamed, IsPartNamed, IsPlain, IsPlanFault, IsPlanned, IsRefusedFor, IsRefusedQuery, IsRun, IsRunnable, IsShort, KINDS, LackBoxes, LacksBoxes, LeavesBoxes, LeavesPlan, MakesText, MeanNothing, NameManyPaths, NamesFewPaths, OfChecked, OfCommand, OfQuery, PartFailsFor, PartFailure, PartName, PartPlace, PlanFailsFor, PlanFailure, PulledMore, PulledRows, PullsItsFlow, RanPlan, ReaderFails, ReadsNamed, Refused, ServesNamed, Shortage, SucceedsUnless, TakesBoxes, Tells, WritesAnswer, boxes_for, edges_kept, failure_of, failure_status, kept_places, kinds_for, kinds_reserved, name_at, name_of, node_specs, part_place, places_in, plan_kinds, plan_of, plan_status, query_status, refused_status, reserves_behind, schemas_of, spec_read, specs_in, status_of, stock_of, tables_used, text_status}
+pub use Rattle.query_run.specs.Names.{AreLawfulOver, AreRefused, Ending, Ends, EndsEarly, EndsFor, EndsUnlawful, FailsAtPart, FailsFor, Failure, GivesText, HasBoxes, IsAccepted, IsAnswerable, IsCertain, IsCheckedCommand, IsEither, IsFileNamed, IsGraphOf, IsHonest, IsListNamed, IsPartNamed, IsPlain, IsPlanFault, IsPlanned, IsRefusedFor, IsRefusedQuery, IsRun, IsRunnable, IsShort, KINDS, LackBoxes, LacksBoxes, LeavesBoxes, LeavesPlan, MakesText, MeanNothing, NameManyPaths, NamesFewPaths, OfChecked, OfCommand, OfQuery, PartFailsFor, PartFailure, PartName, PartPlace, PlanFailsFor, PlanFailure, PulledMore, PulledRows, PullsItsFlow, RanPlan, ReaderFails, ReadsNamed, Refused, ServesNamed, Shortage, SucceedsUnless, TakesBoxes, Tells, WritesAnswer, boxes_for, edges_kept, failure_of, failure_status, kept_places, kinds_for, kinds_reserved, name_at, name_of, node_specs, part_place, places_in, plan_kinds, plan_of, plan_status, query_status, refused_status, reserves_behind, schemas_of, spec_read, specs_in, status_of, stock_of, tables_used, text_status}
 pub use Rattle.query_run.specs.Racks.{pulled_by_boxes}
 pub use Rattle.query_run.specs.declared.ending.Ending.TheVariants.{Answered, Failed, WriteFailed}
 pub use Rattle.query_run.specs.declared.telling.LinePiece.{LinePiece}

@@ -1,5 +1,5 @@
 -- The graph that is run is that of the query's plan.
-use Rattle.query_run.proofs.Imports.{BoxPicture, Checked, Command, DraftNode, GivesText, GraphBegins, GraphForm, HasBoxes, HasStock, IsCheckedCommand, IsGraph, IsPlanned, IsRunnable, IsShort, IsWithinLimits, KeepsBehind, Kind, LeavesRack, List, MakesText, NodeForm, PartPlace, Plan, PlanFailsFor, PlanFailure, PlanFault, PlanFaultHolds, PlanNode, RunsPlan, Shortage, Spec, TableDecl, Tells, [], ap, ap₂, arith, body_nodes, boxes_for, boxes_needed, collect_node, count_by, edges_kept, failure_of, is_of, kinds_for, kinds_reserved, kinds_taken, length, length-append, length-map, length-replicate, map, map-map, name_at, no_draft, node_form, node_specs, places_in, plan_node_of, plan_nodes, plan_of, plan_ranks, replicate, reserved_nodes, reserves_behind, reserves_from, slice_get, specs_in, subst, sym, with_nodes, ℕ, ◌++◌, ◌+◌, ◌∙◌, ◌∷◌, ◌≡◌, ◌≤◌}
+use Rattle.query_run.proofs.Imports.{All, BoxPicture, Checked, Command, DraftNode, GivesText, GraphForm, HasBoxes, HasStock, IsBlank, IsCheckedCommand, IsGraph, IsGraphOf, IsPlanned, IsRunnable, IsShort, IsWithinLimits, KeepsBehind, Kind, LeavesRack, List, MakesText, MayRunPlan, NodeForm, PartPlace, Plan, PlanFails, PlanFailsFor, PlanFailure, PlanFault, PlanGraph, PlanNode, Shortage, TableDecl, Tells, [], ap, ap₂, arith, body_nodes, boxes_for, boxes_needed, collect_node, count_by, edges_kept, failure_of, is_of, kinds_for, kinds_reserved, kinds_taken, length, length-append, length-map, length-replicate, map, map-map, name_at, no_draft, node_form, node_specs, places_in, plan_node_of, plan_nodes, plan_of, plan_ranks, replicate, reserved_nodes, reserves_behind, reserves_from, slice_get, specs_in, subst, sym, with_nodes, ℕ, ◌++◌, ◌+◌, ◌∙◌, ◌∷◌, ◌≡◌, ◌≤◌}
 use Rattle.query_run.proofs.Causes.{told-cause}
 use Rattle.query_run.proofs.Composing.{makes_text}
 use Rattle.query_run.proofs.Grown.{formed}
@@ -19,19 +19,14 @@ module _ (c : Command) (q : Checked) (p : Plan) (planned : IsPlanned c q p)
       subst (λ (n : Kind → ℕ). IsShort n boxes s) same h
 
 -- the lists that the code made of the plan are those of its nodes
-module _ {c : Command} {q : Checked} {p : Plan} {specs : List Spec} (within : IsWithinLimits c)
-    (h : IsCheckedCommand c q) (planned : IsPlanned c q p) (specs_are : specs ≡ node_specs p.nodes)
+module _ {c : Command} {q : Checked} {p : Plan} (within : IsWithinLimits c)
+    (h : IsCheckedCommand c q) (planned : IsPlanned c q p)
   where
     abbrev nodes : List DraftNode
     nodes = planned.laid.copies
 
     copies : AreCopies c q nodes
     copies = record { within = within; checked = h; same = planned.laid.same }
-
-    of_nodes : specs ≡ specs_in nodes
-    of_nodes =
-        specs_are ∙ ap node_specs planned.laid.nodes
-        ∙ map-map (λ (n : PlanNode). n.spec) plan_node_of nodes
 
     nodes_count : length p.nodes ≡ length nodes
     nodes_count = ap (λ l. length l) planned.laid.nodes ∙ length-map nodes plan_node_of
@@ -80,9 +75,6 @@ module _ {c : Command} {q : Checked} {p : Plan} {specs : List Spec} (within : Is
         let last = length-append (body_nodes (plan_of c q)) (collect_node ∷ []) in
         omega (arith, same, last)
 
-    specs_count : length specs ≡ length nodes
-    specs_count = ap (λ l. length l) of_nodes ∙ length-map nodes (λ (n : DraftNode). n.spec)
-
     keeps : KeepsBehind (length nodes) (formed nodes)
     keeps =
         let ranks : List ℕ = map (λ (n : DraftNode). n.rank) nodes in
@@ -96,74 +88,80 @@ module _ {c : Command} {q : Checked} {p : Plan} {specs : List Spec} (within : Is
         (omega (arith, edges, edges_count, few_kept, edges-as-nodes 0 nodes)))
 
     -- the code's graph, with the kinds that it keeps
-    module _ {kept : List Kind} {form : GraphForm} (kept_are : kept ≡ kinds_reserved p.reserves)
-        (ranks : form.ranks ≡ plan_ranks p ++ replicate (length (kinds_reserved p.reserves)) 0)
-        (wires : form.wires ≡ p.edges)
-        (reserves : form.reserves ≡ reserves_behind (length p.nodes) (length p.edges) p.reserves)
-      where
-        of_kept : kept ≡ kinds_reserved (reserves_from 0 nodes)
-        of_kept = kept_are ∙ ap kinds_reserved planned.laid.reserves
+    module _ {g : PlanGraph} (made : IsGraphOf p g) where
+      of_nodes : g.specs.items ≡ specs_in nodes
+      of_nodes = made.specs_are ∙ ap node_specs planned.laid.nodes
+          ∙ map-map (λ (n : PlanNode). n.spec) plan_node_of nodes
 
-        of_form : form ≡ formed nodes
-        of_form = made-form form ranks wires reserves
+      specs_count : length g.specs.items ≡ length nodes
+      specs_count = ap (λ l. length l) of_nodes ∙ length-map nodes (λ (n : DraftNode). n.spec)
 
-        pub made-some : 1 ≤ length specs
-        made-some = omega (arith, some-nodes, specs_count)
+      of_kept : g.kept ≡ kinds_reserved (reserves_from 0 nodes)
+      of_kept = made.kept_are ∙ ap kinds_reserved planned.laid.reserves
 
-        pub one-each : length form.ranks ≡ length specs + length kept
-        one-each =
-            let of = ap (λ (f : GraphForm). length f.ranks) of_form in
-            let all = length-append (map (λ (n : DraftNode). n.rank) nodes)
-            (replicate (reserved_nodes (reserves_from 0 nodes)) 0) in
-            let first = length-map nodes (λ (n : DraftNode). n.rank) in
-            let last = length-replicate {A = ℕ} (reserved_nodes (reserves_from 0 nodes)) 0 in
-            let kinds = ap (λ (l : List Kind). length l) of_kept in
-            omega (
-              arith,
-              of,
-              all,
-              first,
-              last,
-              kinds,
-              specs_count,
-              kinds-length (reserves_from 0 nodes),
-            )
+      of_form : g.form ≡ formed nodes
+      of_form = made-form g.form made.ranks_are made.wires_are made.reserves_are
 
-        pub made-graph : KeepsBehind (length specs) form
-        made-graph = subst (λ f. KeepsBehind (length specs) f) (sym of_form)
-            (subst (λ n. KeepsBehind n (formed nodes)) (sym specs_count) keeps)
+      one-each : length g.form.ranks ≡ length g.specs.items + length g.kept
+      one-each =
+          let of = ap (λ (f : GraphForm). length f.ranks) of_form in
+          let all = length-append (map (λ (n : DraftNode). n.rank) nodes)
+          (replicate (reserved_nodes (reserves_from 0 nodes)) 0) in
+          let first = length-map nodes (λ (n : DraftNode). n.rank) in
+          let last = length-replicate {A = ℕ} (reserved_nodes (reserves_from 0 nodes)) 0 in
+          let kinds = ap (λ (l : List Kind). length l) of_kept in
+          omega (
+            arith,
+            of,
+            all,
+            first,
+            last,
+            kinds,
+            specs_count,
+            kinds-length (reserves_from 0 nodes),
+          )
 
-        module _ {before : List BoxPicture} (runnable : IsRunnable c q before) where
-          stock : HasStock (kinds_for nodes) before
-          stock = subst (λ ks. HasStock ks before)
-              (sym (kinds-for-same nodes (plan_nodes (plan_of c q)) planned.laid.same))
-              (plan_stock c q before runnable.boxes)
+      module _ {before : List BoxPicture} (runnable : IsRunnable c q before) where
+        stock : HasStock (kinds_for nodes) before
+        stock = subst (λ ks. HasStock ks before)
+            (sym (kinds-for-same nodes (plan_nodes (plan_of c q)) planned.laid.same))
+            (plan_stock c q before runnable.boxes)
 
-          abbrev of_kinds : kinds_taken specs kept ≡ kinds_for nodes
-          of_kinds = ap₂ (λ l k. kinds_taken l k) of_nodes of_kept
+        abbrev of_kinds : kinds_taken g.specs.items g.kept ≡ kinds_for nodes
+        of_kinds = ap₂ (λ l k. kinds_taken l k) of_nodes of_kept
 
-          pub made-stock : HasStock (kinds_taken specs kept) before
-          made-stock = subst (λ ks. HasStock ks before) (sym of_kinds) stock
+        pub made-runnable : (workers : ℕ) → All IsBlank before → 1 ≤ workers → workers ≤ 16
+            → MayRunPlan g workers before
+        made-runnable workers blank some few = record {
+          blank = blank;
+          stock = subst (λ ks. HasStock ks before) (sym of_kinds) stock;
+          graph = record {
+            some_nodes = omega (arith, some-nodes, specs_count);
+            one_each = one-each;
+            graph = subst (λ f. KeepsBehind (length g.specs.items) f) (sym of_form)
+                (subst (λ n. KeepsBehind n (formed nodes)) (sym specs_count) keeps);
+            some_workers = some;
+            few_workers = few;
+          };
+        }
 
-          pub made-text : {after : List BoxPicture} (text : List ℕ)
-              → GivesText c.header q.names specs kept form before after text
-              → MakesText c q text before after
-          made-text {after} text g =
-              makes_text copies runnable stock keeps text (rw (of_nodes, of_kept, of_form) at g)
+        pub made-text : {after : List BoxPicture} (text : List ℕ)
+            → GivesText c.header q.names g.specs.items g.kept g.form before after text
+            → MakesText c q text before after
+        made-text {after} text given =
+            makes_text copies runnable stock keeps text (rw (of_nodes, of_kept, of_form) at given)
 
-          pub made-cause : {after : List BoxPicture} (f : PlanFault) (told : PlanFailure)
-              {tables : List TableDecl} {places seen : List PartPlace} → tables ≡ c.tables
-              → seen ≡ places → places ≡ places_in (node_specs p.nodes) p.reserves
-              → Tells told (failure_of f (λ node. name_at tables (slice_get seen node)))
-              → LeavesRack (kinds_taken specs kept) before after
-              → PlanFaultHolds f (GraphBegins form (kinds_taken specs kept))
-              (RunsPlan specs kept before after)
-              → PlanFailsFor told c q before after
-          made-cause {after} f told {tables} {places}
-              {seen} tables_are seen_are places_are tells left why =
-              let of_places : seen ≡ places_in (specs_in nodes) (reserves_from 0 nodes) =
-              seen_are ∙ places_are
-              ∙ ap₂ (λ l rs. places_in l rs) (sym specs_are ∙ of_nodes) planned.laid.reserves in
-              told-cause after copies runnable stock keeps f told
-              (rw (of_places, tables_are) at tells) (rw (of_nodes, of_kept) at left)
-              (rw (of_nodes, of_kept, of_form) at why)
+        pub made-cause : {after : List BoxPicture} (f : PlanFault) (told : PlanFailure)
+            {tables : List TableDecl} {places seen : List PartPlace} → tables ≡ c.tables
+            → seen ≡ places → places ≡ places_in (node_specs p.nodes) p.reserves
+            → Tells told (failure_of f (λ node. name_at tables (slice_get seen node)))
+            → LeavesRack (kinds_taken g.specs.items g.kept) before after
+            → PlanFails g before after f → PlanFailsFor told c q before after
+        made-cause {after} f told {tables} {places}
+            {seen} tables_are seen_are places_are tells left why =
+            let of_places : seen ≡ places_in (specs_in nodes) (reserves_from 0 nodes) =
+            seen_are ∙ places_are
+            ∙ ap₂ (λ l rs. places_in l rs) (sym made.specs_are ∙ of_nodes) planned.laid.reserves in
+            told-cause after copies runnable stock keeps f told
+            (rw (of_places, tables_are) at tells) (rw (of_nodes, of_kept) at left)
+            (rw (of_nodes, of_kept, of_form) at why)

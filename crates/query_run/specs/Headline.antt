@@ -1,6 +1,6 @@
 -- What a run means: the text that an answer of its query has over the files' rows, and every other
 -- end.
-use Rattle.std.specs.Prelude.{◌≡◌, ◌≢◌, ◌⊎◌, ℕ, Bool, List, [], flat_map, length, Option, Some, None, ⊤}
+use Rattle.std.specs.Prelude.{◌<◌, ◌≡◌, ◌≢◌, ◌⊎◌, ℕ, Bool, List, [], flat_map, length, Option, Some, None, ⊤}
 use Rattle.std.specs.List.{All}
 use Rattle.outside_io.specs.Growth.{GrewBy, GrewByPrefix, Untouched}
 use Rattle.chunk_data.specs.Values.{Row}
@@ -61,12 +61,13 @@ pub record IsTextOfAnswer (command : Command) (files : Files) (text : List ℕ) 
   pub is_answer : IsAnswer checked (database command.header files command.tables) rows
   pub is : text ≡ answer_text command.header checked.names rows
 
--- Without LIMIT the boxes of each kind pulled as many rows as the kind's flow says of the answer.
--- The collector always pulled the answer's rows.
+-- Without LIMIT the boxes of each kind that was taken pulled as many rows as the kind's flow says
+-- of the answer. The collector always pulled the answer's rows.
 pub record PullsItsFlow (command : Command) (files : Files) (text : List ℕ)
     (before after : List BoxPicture) : Type 0 where
   pub answer : IsTextOfAnswer command files text
-  pub pulled : answer.checked.limit ≡ None → (k : Kind) → PulledMore k before after
+  pub pulled : answer.checked.limit ≡ None → (k : Kind) → 0 < boxes_for command answer.checked k
+      → PulledMore k before after
       (flow k answer.checked (database command.header files command.tables) answer.rows)
   pub collected : PulledMore kind.Collect before after (Some (length answer.rows))
 

@@ -18,10 +18,11 @@ use Rattle.select_planner.specs.declared.nodes.Plan.{Plan}
 use Rattle.select_planner.specs.declared.nodes.PlanNode.{PlanNode}
 use Rattle.select_planner.specs.declared.nodes.PlanReserve.{PlanReserve}
 use Rattle.select_planner.specs.Boxes.{reserved_nodes}
-use Rattle.select_planner.specs.Shapes.{IsSoundPlan, LaysDown, reserves_from}
-use Rattle.query_run.specs.Racks.{plan_of}
+use Rattle.select_planner.specs.Shapes.{IsSoundPlan, LaysDown, plan_ranks, reserves_from}
+use Rattle.query_run.specs.Racks.{kinds_reserved, plan_of}
 use Rattle.plan_run.specs.Plans.{GivesRows, GraphBegins, RunsPlan, kinds_taken}
 use Rattle.plan_run.specs.declared.run.GraphForm.{GraphForm}
+use Rattle.plan_run.specs.declared.run.PlanGraph.{PlanGraph}
 use Rattle.plan_run.specs.declared.run.PlanFault.{PlanFault}
 use Rattle.plan_run.specs.declared.run.PlanFault.TheVariants as end
 use Rattle.query_run.specs.declared.ending.PartName.{PartName}
@@ -98,6 +99,15 @@ formed nodes = record {
 pub record IsPlanned (c : Command) (q : Checked) (p : Plan) : Type 0 where
   pub laid : LaysDown (plan_nodes (plan_of c q)) p
   pub sound : IsSoundPlan q c.tables c.threads p
+
+-- the graph of a plan: its nodes and edges, and what it keeps
+pub record IsGraphOf (p : Plan) (g : PlanGraph) : Type 0 where
+  pub specs_are : g.specs.items ≡ node_specs p.nodes
+  pub ranks_are : g.form.ranks ≡ plan_ranks p ++ replicate (length (kinds_reserved p.reserves)) 0
+  pub wires_are : g.form.wires ≡ p.edges
+  pub kept_are : g.kept ≡ kinds_reserved p.reserves
+  pub reserves_are : g.form.reserves
+      ≡ reserves_behind (length p.nodes) (length p.edges) p.reserves
 
 -- ---- what it gives
 

@@ -1,10 +1,9 @@
-ghost use Rattle.std.specs.Prelude.{◌≡◌, ◌+◌, ◌≤◌, length, map, slice_get, string_bytes, IfOk, IfErr, Some, None, if◌then◌else◌};
+ghost use Rattle.std.specs.Prelude.{◌≡◌, ◌≤◌, map, slice_get, string_bytes, IfOk, IfErr, Some, None, if◌then◌else◌};
 ghost use Rattle.std.specs.List.{All};
 ghost use Rattle.std.specs.Option.{option_copied};
 ghost use Rattle.command_line.specs.Words.{IsWithinLimits};
 ghost use Rattle.proc_api.specs.Names.{IsBlank};
-ghost use Rattle.plan_run.specs.Stock.{HasStock};
-ghost use Rattle.plan_run.specs.Plans.{kinds_taken, GraphBegins, KeepsBehind, LeavesRack, PlanFaultHolds, RunsPlan};
+ghost use Rattle.plan_run.specs.Plans.{kinds_taken, LeavesRack, MayRunPlan, PlanFails};
 ghost use Rattle.query_run.specs.declared.ending.PlanFailure.TheVariants as failures;
 ghost use Rattle.query_run.specs.Names.{IsRunnable, IsCheckedCommand, OfQuery, FailsFor, PlanFailsFor, MakesText, failure_of, name_at, GivesText, IsPlanFault, IsPlanned, Tells};
 
@@ -167,14 +166,8 @@ fn graph_text<R: AllocGlobal + Threads + Wait + Sync>(
     header: bool,
     workers: u32,
 ) -> Result<Vec<u8>, PlanFault>
-    requires blank { All IsBlank (map (λ b. seen (b.vtable, b.value)) rack.old.boxes.items) }
-    requires stock { HasStock (kinds_taken graph.specs.items graph.kept)
+    requires runnable { MayRunPlan graph workers
         (map (λ b. seen (b.vtable, b.value)) rack.old.boxes.items) }
-    requires some_nodes { 1 ≤ length graph.specs.items }
-    requires some_workers { 1 ≤ workers }
-    requires few_workers { workers ≤ 16 }
-    requires one_each { length graph.form.ranks ≡ length graph.specs.items + length graph.kept }
-    requires graph { KeepsBehind (length graph.specs.items) graph.form }
     ensures rack { LeavesRack (kinds_taken graph.specs.items graph.kept)
         (map (λ b. seen (b.vtable, b.value)) rack.old.boxes.items)
         (map (λ b. seen (b.vtable, b.value)) rack.new.boxes.items) }
@@ -182,11 +175,9 @@ fn graph_text<R: AllocGlobal + Threads + Wait + Sync>(
     ensures text { IfOk result (λ text. GivesText header names.now graph.specs.items graph.kept
         graph.form (map (λ b. seen (b.vtable, b.value)) rack.old.boxes.items)
         (map (λ b. seen (b.vtable, b.value)) rack.new.boxes.items) text.items) }
-    ensures fault { IfErr result (λ f. PlanFaultHolds f
-        (GraphBegins graph.form (kinds_taken graph.specs.items graph.kept))
-        (RunsPlan graph.specs.items graph.kept
+    ensures fault { IfErr result (PlanFails graph
         (map (λ b. seen (b.vtable, b.value)) rack.old.boxes.items)
-        (map (λ b. seen (b.vtable, b.value)) rack.new.boxes.items))) }
+        (map (λ b. seen (b.vtable, b.value)) rack.new.boxes.items)) }
 {
     match run_plan(rt, rack, graph, workers) {
         Ok(chunks) => {

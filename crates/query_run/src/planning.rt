@@ -1,9 +1,8 @@
 // The graph of a plan, and the parts that its boxes serve.
 ghost use Rattle.std.specs.Prelude.{◌≡◌, ◌+◌, ◌++◌, ◌≤◌, length, map, replicate, IfOk, OnOk, slice_get};
-ghost use Rattle.select_planner.specs.Shapes.{plan_ranks};
 ghost use Rattle.select_planner.specs.Boxes.{reserved_nodes};
 ghost use Rattle.query_run.specs.Racks.{kinds_reserved};
-ghost use Rattle.query_run.specs.Steps.{edges_kept, kept_places, name_of, name_at, node_specs, part_place, places_in, reserves_behind, spec_read};
+ghost use Rattle.query_run.specs.Steps.{IsGraphOf, edges_kept, kept_places, name_of, name_at, node_specs, part_place, places_in, reserves_behind, spec_read};
 
 use crate::ending::PartName;
 use chunk_data::{Bytes, List, Memory};
@@ -114,13 +113,7 @@ fn table_name(alloc: Global, tables: &[TableDecl], table: u32) -> Result<Bytes, 
 /// The graph of a plan: its nodes and edges, and what it keeps.
 pub(crate) fn graph_of(alloc: Global, plan: Plan) -> Result<PlanGraph, Memory>
     requires { length plan.edges + edges_kept plan.reserves ≤ 1024 }
-    ensures specs { IfOk result (λ g. g.specs.items ≡ node_specs plan.nodes) }
-    ensures ranks { IfOk result (λ g. g.form.ranks ≡ plan_ranks plan
-        ++ replicate (length (kinds_reserved plan.reserves)) 0) }
-    ensures wires { IfOk result (λ g. g.form.wires ≡ plan.edges) }
-    ensures kept { IfOk result (λ g. g.kept ≡ kinds_reserved plan.reserves) }
-    ensures reserves { IfOk result (λ g. g.form.reserves
-        ≡ reserves_behind (length plan.nodes) (length plan.edges) plan.reserves) }
+    ensures { IfOk result (IsGraphOf plan) }
 {
     let Plan {
         nodes,

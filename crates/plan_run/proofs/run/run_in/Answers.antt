@@ -7,18 +7,19 @@ use Rattle.plan_run.proofs.run.run_in.Goals as goal
 pub run_taken-boxes-requires-clause-blank : goal.run_taken-boxes-requires-clause-blank
 run_taken-boxes-requires-clause-blank g c κs lives =
     subst (All IsBlank) (sym c.take_boxes.ensures.taken)
-    (taken-all IsBlank (kinds_taken c.args.plan.specs.items c.args.plan.kept) _ c.requires.stock
-    c.requires.blank)
+    (taken-all IsBlank (kinds_taken c.args.plan.specs.items c.args.plan.kept) _
+    c.requires.runnable.stock c.requires.runnable.blank)
 
 pub run_taken-boxes-requires-clause-kinds : goal.run_taken-boxes-requires-clause-kinds
 run_taken-boxes-requires-clause-kinds g c κs lives = ap kinds_in c.take_boxes.ensures.taken
-    ∙ taken-kinds (kinds_taken c.args.plan.specs.items c.args.plan.kept) _ c.requires.stock
+    ∙ taken-kinds (kinds_taken c.args.plan.specs.items c.args.plan.kept) _
+    c.requires.runnable.stock
 
 pub returns-clause-rack : goal.returns-clause-rack
 returns-clause-rack g c =
     plan-gives-back (kinds_taken c.args.plan.specs.items c.args.plan.kept) _ _ _ _ _
-    c.take_boxes.ensures.taken c.take_boxes.ensures.left c.give_back.ensures
-    c.run_taken-boxes.ensures.later
+    c.requires.runnable.stock c.take_boxes.ensures.taken c.take_boxes.ensures.left
+    c.give_back.ensures c.run_taken-boxes.ensures.later
 
 pub returns-clause-rows : goal.returns-clause-rows
 returns-clause-rows g c =
