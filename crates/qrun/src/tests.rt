@@ -19,6 +19,9 @@ mod lists;
 mod orders;
 mod plans;
 mod queries;
+mod refusals;
+mod stress;
+mod unlawful;
 
 use crate::racks::{LISTS, OTHERS, SOURCES};
 use crate::tests::boxes::add_each;
@@ -35,32 +38,49 @@ use std::sync::{Arc, Wait};
 use std::test::Fail;
 use std::thread::Threads;
 
-/// Files in memory whose reader has nothing yet so many times before the first byte.
+/// Files in memory whose reader has nothing yet so many times before the first byte, and now and
+/// then, where noise isn't 0.
 #[derive(Drop)]
 struct SlowFiles {
     files: MemFiles,
     waits: u64,
+    noise: u64,
     pendings: u64,
+}
+
+impl SlowFiles {
+    /// Whether there is nothing this time. Noise goes on by Marsaglia's xorshift.
+    fn has_nothing(&mut self) -> bool
+        ensures files { self.new.files ≡ self.old.files }
+        ensures pendings { self.new.pendings ≡ self.old.pendings }
+    {
+        if self.waits > 0 {
+            self.waits -= 1;
+            return true;
+        }
+        self.noise ^= self.noise << 13;
+        self.noise ^= self.noise >> 7;
+        self.noise ^= self.noise << 17;
+        self.noise & 1 == 1
+    }
 }
 
 impl FileReader for SlowFiles {
     ghost use Rattle.std.specs.Prelude.{Some};
 
-    ghost files = { λ s. Some s.files.files };
-
-    ghost position = { λ s. s.files.position };
-
-    ghost faults = { λ s. s.files.faults };
-
-    ghost pendings = { λ s. s.pendings };
+    ghost reader = { λ s. record {
+      files = Some s.files.files;
+      position = s.files.position;
+      faults = s.files.faults;
+      pendings = s.pendings;
+    } };
 
     fn open_path(&mut self, path: &Bytes) -> Result<(), Failed> {
         self.files.open_path(path)
     }
 
     fn read_some(&mut self, buf: &mut [u8]) -> Result<Got, Failed> {
-        if self.waits > 0 {
-            self.waits -= 1;
+        if self.has_nothing() {
             self.pendings = self.pendings.saturating_add(1);
             return Ok(Got::Pending);
         }
@@ -163,22 +183,31 @@ struct Setting {
     fake: Option<Fake>,
     /// How often a reader has nothing yet before its first byte.
     waits: u64,
-    /// The place of the one source whose reader is so among those of its kind, or else all are.
-    only: Option<u32>,
+    /// What begins the noise by which a reader has nothing now and then; 0 where it always has.
+    noise: u64,
+    /// The places in the rack of the sources whose readers are so; all are where none is named.
+    only: &'static [u32],
     /// How often the words run.
     runs: u32,
+    /// Whether the first worked command runs behind them, by the same rack.
+    serves: bool,
     /// How many bytes the sink of the answer takes in a call, and in all.
     out: (usize, usize),
     /// And that of the line.
     err: (usize, usize),
 }
 
+/// The first worked command, over a file that each reader has beside the parts.
+const FIRST: &str = "--query|SELECT a FROM t|--tables|t=row1.csv:a Int64,b String";
+
 /// Readers that don't fail, and ample room.
 const AMPLE: Setting = Setting {
     fake: None,
     waits: 0,
-    only: None,
+    noise: 0,
+    only: &[],
     runs: 1,
+    serves: false,
     out: (4096, 65_536),
     err: (80, 400),
 };
@@ -249,15 +278,17 @@ fn reader_of(
 ) -> Result<SlowFiles, Fail>
     ensures { IfOk result (λ r. r.files.files ≡ files.now) }
 {
-    let (fake, waits) = match setting.only {
-        Some(only) if only != place => (None, 0),
-        _ => (setting.fake, setting.waits),
+    let (fake, waits) = if setting.only.is_empty() || setting.only.contains(&place) {
+        (setting.fake, setting.waits)
+    } else {
+        (None, 0)
     };
     let script = script_of(alloc, fake)?;
     let files = copy_files(alloc, files)?;
     Ok(SlowFiles {
         files: MemFiles::new(alloc, files, script),
         waits,
+        noise: setting.noise.wrapping_mul(place as u64 + 1),
         pendings: 0,
     })
 }
@@ -315,13 +346,14 @@ fn add_told<R: AllocGlobal + Threads + Wait + Sync>(
     }
 }
 
-/// Adds so many sources of the kind.
+/// Adds so many sources of the kind, of which the first has this place in the rack.
 fn add_told_sources<R: AllocGlobal + Threads + Wait + Sync>(
     rt: &R,
     rack: &mut Rack,
     files: &List<FileEntry>,
     setting: Setting,
     kind: Kind,
+    first: u32,
     count: u32,
 ) -> Result<(), Fail>
     ensures { OnOk result (AddsTold kind count (Some (told_pairs files.now))
@@ -329,7 +361,7 @@ fn add_told_sources<R: AllocGlobal + Threads + Wait + Sync>(
         (map (λ b. seen (b.vtable, b.value)) rack.new.boxes.items)) }
 {
     for n in 0..count {
-        add_told(rt, rack, files, setting, kind, n)?;
+        add_told(rt, rack, files, setting, kind, first.saturating_add(n))?;
     }
     Ok(())
 }
@@ -379,8 +411,16 @@ fn run_stocked<R: AllocGlobal + Threads + Wait + Sync>(
         × (others.now ≡ others_of_rack) }
 {
     let mut rack = Rack::new(rt.alloc());
-    add_told_sources(rt, &mut rack, files, setting, Kind::Csv, sources.0)?;
-    add_told_sources(rt, &mut rack, files, setting, Kind::List, sources.1)?;
+    add_told_sources(rt, &mut rack, files, setting, Kind::Csv, 0, sources.0)?;
+    add_told_sources(
+        rt,
+        &mut rack,
+        files,
+        setting,
+        Kind::List,
+        sources.0,
+        sources.1,
+    )?;
     add_each(rt, &mut rack, others)?;
     run_shown(rt, words, &mut rack, files, setting, standard)
 }
@@ -405,6 +445,11 @@ fn run_shown<R: AllocGlobal + Threads + Wait + Sync>(
     show_kinds(&mut kinds, rack)?;
     for _run in 1..setting.runs {
         outcomes.push(outcome_of(rt, words, rack, files, setting, false)?)?;
+        show_kinds(&mut kinds, rack)?;
+    }
+    if setting.serves {
+        let first = bars(rt.alloc(), FIRST)?;
+        outcomes.push(outcome_of(rt, first.as_slice(), rack, files, AMPLE, false)?)?;
         show_kinds(&mut kinds, rack)?;
     }
     Ok(Runs { outcomes, kinds })

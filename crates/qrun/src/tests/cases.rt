@@ -102,7 +102,7 @@ fn run_case<R: AllocGlobal + Threads + Wait + Sync>(
     setting: Setting,
 ) -> Result<Runs, Fail> {
     let files = parts_of(rt.alloc(), parts)?;
-    let words = words_of(rt.alloc(), tables, files.len(), query, size)?;
+    let words = words_of(rt.alloc(), tables, parts.split('|').count(), query, size)?;
     run_setting(rt, words.as_slice(), &files, stock, setting)
 }
 
@@ -157,7 +157,7 @@ fn push_turns(alloc: Global, whole: &mut String, times: u32, turn: &str) -> Resu
     Ok(())
 }
 
-// The files `p0.csv`, `p1.csv`, ..
+// The files `p0.csv`, `p1.csv`, .., and that of the first worked command.
 fn parts_of(alloc: Global, parts: &str) -> Result<List<FileEntry>, Fail> {
     let mut files = Vec::new(alloc);
     for part in parts.split('|') {
@@ -167,6 +167,10 @@ fn parts_of(alloc: Global, parts: &str) -> Result<List<FileEntry>, Fail> {
             bytes: text(alloc, part.as_bytes())?,
         })?;
     }
+    files.push(FileEntry {
+        path: text(alloc, b"row1.csv")?,
+        bytes: text(alloc, b"7,x\n7,y\n")?,
+    })?;
     Ok(List::from_vec(files))
 }
 
@@ -241,7 +245,7 @@ fn is_outcome(alloc: Global, outcome: &Outcome, told: &str, room: usize) -> Resu
 
 // The status that a line's front stands for.
 fn status_of(line: &str) -> u8 {
-    static STATUSES: [(&str, u8); 7] = [
+    static STATUSES: [(&str, u8); 8] = [
         ("usage", 1),
         ("refused", 2),
         ("bad", 3),
@@ -249,6 +253,7 @@ fn status_of(line: &str) -> u8 {
         ("stalled", 4),
         ("write fault", 5),
         ("limit", 6),
+        ("out of memory", 7),
     ];
     for (front, status) in STATUSES.iter() {
         if line.starts_with(*front) {

@@ -141,7 +141,7 @@ fn boxes_come_back_in_their_order(rt: HostRuntime) -> Result<(), Fail> {
 fn a_fault_leaves_the_rack_for_another_run(rt: HostRuntime) -> Result<(), Fail> {
     let setting = Setting {
         runs: 2,
-        only: Some(1),
+        only: &[1],
         fake: Some(Fake {
             call: 3,
             kind: FakeKind::Fail,
@@ -186,7 +186,7 @@ fn a_reader_stalls_at_a_million_waits(rt: HostRuntime) -> Result<(), Fail> {
 fn waiting(waits: u64) -> Setting {
     Setting {
         waits,
-        only: Some(0),
+        only: &[0],
         ..AMPLE
     }
 }

@@ -68,13 +68,6 @@ keeps_behind : KeepsBehind 2
     (record { ranks = 1 ∷ 2 ∷ []; wires = wire ∷ []; reserves = [] })
 keeps_behind = record { graph = is_graph; reserves_fit = are_reserves; kept = is_kept_behind }
 
-pub run_plan-requires-clause-graph : goal.run_plan-requires-clause-graph
-run_plan-requires-clause-graph g c κs lives =
-    let two : length c.push-2.new.self.items ≡ 2 =
-    omega (arith, c.in_ok-push-2.ensures.len, c.in_ok-push.ensures.len, c.new-specs.ensures.len) in
-    rw two (rw c.in_ok-pair_ranks.ensures (rw c.in_ok-pair_wires.ensures (rw c.new-2.ensures
-    keeps_behind)))
-
 has_pair : (boxes : List BoxPicture) {sources collectors : ℕ}
     → sources ≡ count_by (is_of kind.Csv) boxes → collectors ≡ count_by (is_of kind.Collect) boxes
     → 1 ≤ sources → 1 ≤ collectors → HasStock (kind.Csv ∷ kind.Collect ∷ []) boxes
@@ -92,10 +85,23 @@ has_pair boxes s c source collector kind.MergeSorted = omega arith
 has_pair boxes s c source collector kind.Limit = omega arith
 has_pair boxes s c source collector kind.Collect = omega (arith, c, collector)
 
-pub run_plan-requires-clause-stock : goal.run_plan-requires-clause-stock
-run_plan-requires-clause-stock g c κs lives k =
+pub run_plan-requires-clause-runnable : goal.run_plan-requires-clause-runnable
+run_plan-requires-clause-runnable g c κs lives =
     let boxes = map (λ b. (goal.Processor-dyn g (b.vtable, b.value)).seen b.value)
     c.args.rack.now.boxes.items in
-    rw c.in_ok-push-2.ensures.items (rw c.in_ok-push.ensures.items (rw c.new-specs.ensures.items
-    (rw c.new.ensures
-    (has_pair boxes c.count.ensures c.count-2.ensures (search rules) (search rules) k))))
+    let two : length c.push-2.new.self.items ≡ 2 =
+    omega (arith, c.in_ok-push-2.ensures.len, c.in_ok-push.ensures.len, c.new-specs.ensures.len) in
+    record {
+      blank = c.requires;
+      stock = λ k. rw c.in_ok-push-2.ensures.items (rw c.in_ok-push.ensures.items
+          (rw c.new-specs.ensures.items (rw c.new.ensures
+          (has_pair boxes c.count.ensures c.count-2.ensures (search rules) (search rules) k))));
+      graph = record {
+        some_nodes = omega (arith, two);
+        one_each = rw two (rw c.new.ensures (rw c.in_ok-pair_ranks.ensures refl));
+        graph = rw two (rw c.in_ok-pair_ranks.ensures (rw c.in_ok-pair_wires.ensures
+            (rw c.new-2.ensures keeps_behind)));
+        some_workers = omega arith;
+        few_workers = omega arith;
+      };
+    }
