@@ -1,2 +1,1 @@
 pub mod Stocking
-pub mod Unlawful

@@ -21,7 +21,6 @@ mod plans;
 mod queries;
 mod refusals;
 mod stress;
-mod unlawful;
 
 use crate::racks::{LISTS, OTHERS, SOURCES};
 use crate::tests::boxes::add_each;

@@ -6,12 +6,13 @@ use chunk_data::List;
 use outside_io::{Fake, FakeKind, FileEntry};
 use std::alloc::Global;
 use std::process::Abort;
+use std::str::from_utf8;
 use std::sync::Wait;
 use std::test::Fail;
 use std::thread::Threads;
 
 /// Numbers of lanes and of rows of a chunk.
-pub(super) static SIZES: [&str; 6] = [
+static SIZES: [&str; 6] = [
     "|--threads|1|--chunk|1",
     "|--threads|4|--chunk|1",
     "|--threads|16|--chunk|1",
@@ -222,7 +223,7 @@ fn a_path_is_a_text(rt: HostRuntime) -> Result<(), Fail> {
     Ok(())
 }
 
-pub(super) fn push_file(
+fn push_file(
     alloc: Global,
     files: &mut Vec<FileEntry>,
     path: &[u8],
@@ -290,6 +291,9 @@ fn a_line_is_not_told(rt: HostRuntime) -> Result<(), Fail> {
 fn a_front_is_written(rt: HostRuntime) -> Result<(), Fail> {
     const TEXT: &str = "-12,\"x\"\n34,\"\"\"\"\n56,\"y,z\"\n";
     for room in 0..TEXT.len() {
+        let Ok(front) = from_utf8(&TEXT.as_bytes()[..room]) else {
+            return Err("the text is cut within a character".into());
+        };
         let setting = Setting {
             out: (1, room),
             serves: true,
@@ -297,8 +301,7 @@ fn a_front_is_written(rt: HostRuntime) -> Result<(), Fail> {
         };
         let case = format!(in rt.alloc();
             "a Int64,b String~SELECT a, b FROM t~-12,x\n34,\"\"\"\"\n56,\"y,z\"\n~\
-             {}!write fault{SERVED}",
-            &TEXT[..room]
+             {front}!write fault{SERVED}"
         )?;
         check_case(&rt, &rt, case.as_str(), SIZES[3], setting)?;
     }
