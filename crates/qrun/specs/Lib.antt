@@ -1,1 +1,2 @@
 pub mod Stocking
+pub mod Unlawful

@@ -21,6 +21,7 @@ mod plans;
 mod queries;
 mod refusals;
 mod stress;
+mod unlawful;
 
 use crate::racks::{LISTS, OTHERS, SOURCES};
 use crate::tests::boxes::add_each;

@@ -12,7 +12,7 @@ use std::test::Fail;
 use std::thread::Threads;
 
 /// Numbers of lanes and of rows of a chunk.
-static SIZES: [&str; 6] = [
+pub(super) static SIZES: [&str; 6] = [
     "|--threads|1|--chunk|1",
     "|--threads|4|--chunk|1",
     "|--threads|16|--chunk|1",
@@ -223,7 +223,7 @@ fn a_path_is_a_text(rt: HostRuntime) -> Result<(), Fail> {
     Ok(())
 }
 
-fn push_file(
+pub(super) fn push_file(
     alloc: Global,
     files: &mut Vec<FileEntry>,
     path: &[u8],
