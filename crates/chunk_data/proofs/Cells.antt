@@ -3,10 +3,9 @@ use Rattle.chunk_data.proofs.Imports.{All, Bool, List, [], ap, arith, drop-map, 
 
 pub kept-map : {X Y : Type 0} (f : X → Y) (mask : List Bool) (xs : List X)
     → kept mask (map f xs) ≡ map f (kept mask xs)
-kept-map f [] xs = refl
-kept-map f (m ∷ mask) [] = refl
 kept-map f (true ∷ mask) (x ∷ xs) = ap (λ l. f x ∷ l) (kept-map f mask xs)
 kept-map f (false ∷ mask) (x ∷ xs) = kept-map f mask xs
+kept-map f _ _ = refl
 
 pub places-map : {X Y : Type 0} (f : X → Y) (xs : List X) (places : List ℕ) (d : X) (e : Y)
     → All (λ p. p < length xs) places

@@ -1,8 +1,8 @@
 -- chunks
-use Rattle.chunk_data.proofs.Imports.{arith, All, AreColumns, AreLong, Bool, Column, ColumnType, FitsTypes, IsTable, List, Row, Table, Value, [], ap, count_by, drop, get_or, get_or-map, append_each, kept, column_type, length, length-map, map, map-append, nil_from_length, refl, row_at, rows_of, sym, take, take_at, take_more, value_at, value_range, values, ℕ, ◌++◌, ◌+◌, ◌-◌, ◌<◌, ◌∙◌, ◌∷◌, ◌≡◌, ◌≤◌}
-use Rattle.chunk_data.proofs.Rows.{length-rows_of, AreLong-joined, rows_of-joined, AreLong-row, rows_of_push, AreLong-kept, rows_of-kept, column_of-rows_of, AreLong-places, rows_of-places, AreLong-take, rows_of-take, AreLong-drop, rows_of-drop}
+use Rattle.chunk_data.proofs.Imports.{arith, All, AreColumns, AreLong, Column, ColumnType, IsTable, List, Row, Table, Value, [], ap, drop, get_or, get_or-map, append_each, column_type, length, length-map, map, map-append, nil_from_length, refl, row_at, rows_of, sym, take, take_at, take_more, value_at, value_range, values, ℕ, ◌++◌, ◌+◌, ◌-◌, ◌<◌, ◌∙◌, ◌∷◌, ◌≡◌, ◌≤◌}
+use Rattle.chunk_data.proofs.Rows.{length-rows_of, AreLong-joined, rows_of-joined, column_of-rows_of, AreLong-places, rows_of-places, AreLong-take, rows_of-take, AreLong-drop, rows_of-drop}
 use Rattle.chunk_data.proofs.ColumnLists.{AreLong-at}
-use Rattle.chunk_data.proofs.Laws.{length-FitsTypes, rows_fit, AreLong-append, rows_of-append}
+use Rattle.chunk_data.proofs.Laws.{rows_fit, AreLong-append, rows_of-append}
 
 -- what a `&mut` slice of a Vec leaves
 pub written_back : {X : Type 0} (old now : List X) (n : ℕ) → length now ≡ length old
@@ -25,36 +25,6 @@ pub rows_of_empty : (types : List ColumnType) (columns : List Column)
     → map values columns ≡ map (λ _. []) types → rows_of 0 (map values columns) ≡ []
 rows_of_empty types columns v = rw v (no_rows types)
 
-same_long : (types : List ColumnType) (columns others : List Column)
-    → map column_type columns ≡ types → map column_type others ≡ types
-    → length (map values others) ≡ length (map values columns)
-same_long types columns others e k = search (arith, length-map)
-
-pub AreColumns-push : (types : List ColumnType) (columns now : List Column) (row : List Value)
-    (n : ℕ) → AreColumns types columns n → map column_type now ≡ map column_type columns
-    → map values now ≡ append_each (map values columns) (map (λ v. v ∷ []) row)
-    → AreColumns types now (n + 1)
-AreColumns-push types columns now row n h e v = search (arith, AreLong-joined, AreLong-row)
-
-pub rows_of_pushed : (types : List ColumnType) (columns now : List Column) (row : List Value)
-    (n : ℕ) → AreColumns types columns n → FitsTypes types row
-    → map values now ≡ append_each (map values columns) (map (λ v. v ∷ []) row)
-    → rows_of (n + 1) (map values now) ≡ rows_of n (map values columns) ++ row ∷ []
-rows_of_pushed types columns now row n h t v =
-    search (arith, length-FitsTypes, length-map, rows_of_push)
-
-pub AreColumns-kept : (types : List ColumnType) (columns now : List Column) (mask : List Bool)
-    (n : ℕ) → AreColumns types columns n → length mask ≡ n → map column_type now
-    ≡ map column_type columns → map values now ≡ map (kept mask) (map values columns)
-    → AreColumns types now (count_by (λ m. m) mask)
-AreColumns-kept types columns now mask n h l e v = search (arith, AreLong-kept)
-
-pub rows_of_kept : (types : List ColumnType) (columns now : List Column) (mask : List Bool) (n : ℕ)
-    → AreColumns types columns n → length mask ≡ n
-    → map values now ≡ map (kept mask) (map values columns)
-    → rows_of (count_by (λ m. m) mask) (map values now) ≡ kept mask (rows_of n (map values columns))
-rows_of_kept types columns now mask n h l v = rw v (rows_of-kept mask n _ h.long l)
-
 pub column_of : (types : List ColumnType) (columns : List Column) (n c : ℕ) (d : Column)
     → AreColumns types columns n → c < length columns
     → values (get_or columns c d) ≡ map (λ row. value_at row c) (rows_of n (map values columns))
@@ -65,18 +35,6 @@ column_of types columns n c d h lt =
 
 pub append_same : {X : Type 0} {xs us ys vs : List X} → xs ≡ us → ys ≡ vs → xs ++ ys ≡ us ++ vs
 append_same {us = us} {ys = ys} e k = ap (λ l. l ++ ys) e ∙ ap (λ l. us ++ l) k
-
--- ---- the steps of the calls: `given` is the slice that was passed, `now` what is left there, and
--- the Vec has `len` columns
-pub kept_step : (types : List ColumnType) (columns given now : List Column) (mask : List Bool)
-    (n count len : ℕ) → AreColumns types columns n → given ≡ columns → length now ≡ length given
-    → len ≡ length columns → length mask ≡ n → count ≡ count_by (λ m. m) mask → map column_type now
-    ≡ map column_type given → map values now ≡ map (kept mask) (map values given)
-    → (AreColumns types
-    (take len (now ++ drop (length now) columns)) count) × (rows_of count (map values
-    (take len (now ++ drop (length now) columns))) ≡ kept mask (rows_of n (map values columns)))
-kept_step types columns given now mask n count len h g l w m e k v =
-    search (arith, written_back, AreColumns-kept, rows_of_kept)
 
 column_at_long : (columns : List Column) (n i : ℕ) (x : Column) → AreLong n (map values columns)
     → i < length columns → length (values (get_or columns i x)) ≡ n
@@ -95,58 +53,51 @@ pub all_reach : (columns : List Column) (n m : ℕ) → AreLong m (map values co
     → All (λ c. n ≤ length (values c)) columns
 all_reach columns n m h le = λ k d lt. omega (arith, column_at_long columns m k d h lt)
 
-pub ranges_step : (types : List ColumnType) (columns given now others others_given : List Column)
-    (n m from k count len : ℕ) → AreColumns types columns n → AreColumns types others m
-    → from + k ≤ m → given ≡ columns → others_given ≡ others → length now ≡ length given
-    → len ≡ length columns → count ≡ n + k → map column_type now ≡ map column_type given
-    → map values now ≡ append_each (map values given) (map (value_range from k)
-    others_given) → (AreColumns types (take len (now ++ drop (length now) columns)) count)
-    × (rows_of count (map values (take len (now ++ drop (length now) columns)))
-    ≡ rows_of n (map values columns) ++ take k (drop from (rows_of m (map values others))))
-ranges_step types columns given now others others_given n m from k count len h o le g og l w e t v =
-    let back : take len (now ++ drop (length now) columns) ≡ now =
-    written_back columns now len (l ∙ ap length g) w in
-    let part : List (List Value) = map (take k) (map (drop from) (map values others)) in
-    let cells : map values now ≡ append_each (map values columns) part = v
-    ∙ ap (λ l. append_each (map values l) (map (value_range from k) others_given)) g
-    ∙ ap (λ l. append_each (map values columns) (map (value_range from k) l)) og
-    ∙ ap (λ l. append_each (map values columns) l) (ranges others from k) in
-    let within : k ≤ m - from = omega arith in
-    let long : AreLong k part =
-    AreLong-take k (m - from) _ (AreLong-drop from m (map values others) o.long) within in
-    let rows : rows_of k part ≡ take k (drop from (rows_of m (map values others))) =
-    rows_of-take k (m - from) _ within
-    ∙ ap (λ l. take k l) (rows_of-drop from m (map values others) o.long) in
-    let wide : length part ≡ length (map values columns) =
-    length-map _ (take k) ∙ length-map _ (drop from)
-    ∙ same_long types columns others h.kinds o.kinds in
-    rw (back, e) (
-      record {
-        kinds = t ∙ ap (λ l. map column_type l) g ∙ h.kinds;
-        long = rw cells (AreLong-joined n k _ part h.long long);
-      },
-      rw cells (rows_of-joined n k _ part h.long long wide)
-          ∙ ap (λ l. rows_of n (map values columns) ++ l) rows,
-    )
+-- behind n rows come those of n values of each column from a place on
+module _ (columns others : List Column) (n m from k : ℕ) (h : AreLong n (map values columns))
+    (o : AreLong m (map values others)) (le : from + k ≤ m) where
+  within : k ≤ m - from
+  within = omega arith
 
-pub push_step : (types : List ColumnType) (columns given now : List Column)
-    (row row_given : List Value) (n count len : ℕ) → AreColumns types columns n
-    → FitsTypes types row → given ≡ columns → row_given ≡ row → length now ≡ length given
-    → len ≡ length columns → count ≡ n + 1 → map column_type now ≡ map column_type given
-    → map values now ≡ append_each (map values given) (map (λ v. v ∷ []) row_given)
-    → (AreColumns types
-    (take len (now ++ drop (length now) columns)) count) × (rows_of count (map values
-    (take len (now ++ drop (length now) columns))) ≡ rows_of n (map values columns) ++ row ∷ [])
-push_step types columns given now row row_given n count len h t g rg l w e k v =
-    let back : take len (now ++ drop (length now) columns) ≡ now =
-    written_back columns now len (l ∙ ap length g) w in
-    let cells : map values now ≡ append_each (map values columns) (map (λ v. v ∷ []) row) = v
-    ∙ ap (λ l. append_each (map values l) (map (λ v. v ∷ []) row_given)) g
-    ∙ ap (λ r. append_each (map values columns) (map (λ v. v ∷ []) r)) rg in
-    rw (back, e) (
-      AreColumns-push types columns now row n h (k ∙ ap (λ l. map column_type l) g) cells,
-      rows_of_pushed types columns now row n h t cells,
-    )
+  pub ranges_long :
+      AreLong (n + k) (append_each (map values columns) (map (value_range from k) others))
+  ranges_long = rw (ranges others from k)
+      (AreLong-joined n k _ _ h (AreLong-take k (m - from) _ (AreLong-drop from m _ o) within))
+
+  pub ranges_rows : length others ≡ length columns
+      → rows_of (n + k) (append_each (map values columns) (map (value_range from k) others))
+      ≡ rows_of n (map values columns) ++ take k (drop from (rows_of m (map values others)))
+  ranges_rows e =
+      let part : List (List Value) = map (take k) (map (drop from) (map values others)) in
+      let wide : length part ≡ length (map values columns) = length-map _ (take k)
+      ∙ length-map _ (drop from) ∙ length-map others values ∙ e ∙ sym (length-map columns values) in
+      rw (ranges others from k) (rows_of-joined n k _ part h (AreLong-take k (m - from) _
+      (AreLong-drop from m _ o) within) wide ∙ ap (λ l. rows_of n (map values columns) ++ l)
+      (rows_of-take k (m - from) _ within ∙ ap (take k) (rows_of-drop from m _ o)))
+
+-- What a call leaves that changes all values by F: `given` is the slice that was passed, `now` what
+-- is left there, and the Vec has `len` columns.
+module _ (F : List (List Value) → List (List Value)) (columns given now : List Column) (len : ℕ)
+    (g : given ≡ columns) (l : length now ≡ length given) (w : len ≡ length columns)
+    (v : map values now ≡ F (map values given)) where
+  abbrev left : List Column
+  left = take len (now ++ drop (length now) columns)
+
+  left_is : left ≡ now
+  left_is = written_back columns now len (l ∙ ap length g) w
+
+  cells_are : map values now ≡ F (map values columns)
+  cells_are = v ∙ ap (λ l. F (map values l)) g
+
+  pub columns_after : (types : List ColumnType) (count : ℕ) → map column_type columns ≡ types
+      → map column_type now ≡ map column_type given → AreLong count (F (map values columns))
+      → AreColumns types left count
+  columns_after types count t k long = rw left_is
+      (record { kinds = k ∙ ap (map column_type) g ∙ t; long = rw cells_are long })
+
+  pub rows_after : (count : ℕ) {rows : List Row} → rows_of count (F (map values columns)) ≡ rows
+      → rows_of count (map values left) ≡ rows
+  rows_after count e = rw (left_is, cells_are) e
 
 pub length_rows : (types : List ColumnType) (columns : List Column) (n : ℕ)
     → AreColumns types columns n → length (rows_of n (map values columns)) ≡ n
@@ -193,9 +144,7 @@ pub ruleset chunks = (length_rows, AreColumns-empty, rows_of_empty, column_of)
 pub column_long : (columns : List Column) (n i : ℕ) (x : Column) → AreLong n (map values columns)
     → i < length columns → x ≡ get_or columns i x → length (values x) ≡ n
 column_long columns n i x h lt is =
-    let wide : i < length (map values columns) = rw length-map lt in
-    ap length (ap values is ∙ sym (get_or-map values columns i x (values x) lt))
-    ∙ AreLong-at n (map values columns) i (values x) h wide
+    ap (λ c. length (values c)) is ∙ column_at_long columns n i x h lt
 
 pub places_step : (types : List ColumnType) (columns given now : List Column) (places : List ℕ)
     (n : ℕ) → AreColumns types columns n → All (λ p. p < n) places → given ≡ columns
@@ -223,59 +172,3 @@ row_more columns n i at x v row h lt la is e r =
     take_more columns at x la in
     let same : get_or columns at x ≡ x = sym is in
     rw (more, same, map-append, map-append, ← r, ← e) refl
-
-pub front_step : (types : List ColumnType) (columns given now : List Column) (m n : ℕ)
-    → AreColumns types columns n → m ≤ n → given ≡ columns → map column_type now ≡ map column_type
-    given → map values now ≡ map (take m) (map values given) → (AreColumns types now m)
-    × (rows_of m (map values now) ≡ take m (rows_of n (map values columns)))
-front_step types columns given now m n h le g k v =
-    let cells : map values now ≡ map (take m) (map values columns) = v
-    ∙ ap (λ l. map (take m) (map values l)) g in (
-      record {
-        kinds = k ∙ ap (λ l. map column_type l) g ∙ h.kinds;
-        long =
-            rw cells (AreLong-take m n _ h.long le);
-      },
-      rw cells (rows_of-take m n _ le),
-    )
-
--- the first m of n rows are left
-pub left_step : (types : List ColumnType) (columns given now : List Column) (m n len : ℕ) →
-    AreColumns types columns n → m ≤ n → given ≡ columns → length now ≡ length given → len ≡ length
-    columns → map column_type now ≡ map column_type given
-    → map values now ≡ map (take m) (map values given)
-    → (AreColumns types (take len (now ++ drop (length now) columns)) m) × (rows_of m (map values
-    (take len (now ++ drop (length now) columns))) ≡ take m (rows_of n (map values columns)))
-left_step types columns given now m n len h le g l w k v =
-    let back : take len (now ++ drop (length now) columns) ≡ now =
-    written_back columns now len (l ∙ ap length g) w in
-    rw back (front_step types columns given now m n h le g k v)
-
-pub rest_step : (types : List ColumnType) (columns given now : List Column) (m n len : ℕ) →
-    AreColumns types columns n → given ≡ columns → length now ≡ length given → len ≡ length columns
-    → map column_type now ≡ map column_type given → map values now ≡ map (drop m) (map values given)
-    →
-    (AreColumns types (take len (now ++ drop (length now) columns)) (n - m)) × (rows_of (n - m) (map
-    values (take len (now ++ drop (length now) columns))) ≡ drop m (rows_of n (map values columns)))
-rest_step types columns given now m n len h g l w k v =
-    let back : take len (now ++ drop (length now) columns) ≡ now =
-    written_back columns now len (l ∙ ap length g) w in
-    let cells : map values now ≡ map (drop m) (map values columns) = v
-    ∙ ap (λ l. map (drop m) (map values l)) g in
-    rw back (
-      record {
-        kinds = k ∙ ap (λ l. map column_type l) g ∙ h.kinds;
-        long =
-            rw cells (AreLong-drop m n _ h.long);
-      },
-      rw cells (rows_of-drop m n _ h.long),
-    )
-
-pub rest_step_at : (types : List ColumnType) (columns given now : List Column) (m n len count : ℕ)
-    → AreColumns types columns n → given ≡ columns → length now ≡ length given
-    → len ≡ length columns → map column_type now ≡ map column_type given
-    → map values now ≡ map (drop m) (map values given) → count ≡ n - m
-    → (AreColumns types (take len (now ++ drop (length now) columns)) count) × (rows_of count (map
-    values (take len (now ++ drop (length now) columns))) ≡ drop m (rows_of n (map values columns)))
-rest_step_at types columns given now m n len count h g l w k v e =
-    rw e (rest_step types columns given now m n len h g l w k v)

@@ -10,9 +10,8 @@ changed f (suc i) (x ∷ xs) = f x ∷ changed f i xs
 
 pub get_or-changed : {X : Type 0} (f : X → X) (i : ℕ) (xs : List X) (d : X)
     → get_or (changed f i xs) i d ≡ get_or xs i d
-get_or-changed f zero xs d = refl
-get_or-changed f (suc i) [] d = refl
 get_or-changed f (suc i) (x ∷ xs) d = get_or-changed f i xs d
+get_or-changed f _ _ d = refl
 
 pub changed_more : {X : Type 0} (f : X → X) (i : ℕ) (xs : List X) (d : X) → i < length xs
     → set (changed f i xs) i (f (get_or xs i d)) ≡ changed f (suc i) xs
@@ -22,10 +21,9 @@ changed_more f (suc i) (x ∷ xs) d h = ap (λ l. f x ∷ l) (changed_more f i x
 
 pub changed_all : {X : Type 0} (f : X → X) (i : ℕ) (xs : List X) → length xs ≤ i
     → changed f i xs ≡ map f xs
-changed_all f zero [] h = refl
 changed_all f zero (x ∷ xs) h = absurd (omega arith)
-changed_all f (suc i) [] h = refl
 changed_all f (suc i) (x ∷ xs) h = ap (λ l. f x ∷ l) (changed_all f i xs (omega arith))
+changed_all f _ _ h = refl
 
 -- the first i of the others appended
 abbrev pub joined_front : {X : Type 0} → ℕ → List (List X) → List (List X) → List (List X)
@@ -37,29 +35,26 @@ joined_front (suc i) (column ∷ columns) (other ∷ others) =
 
 pub get_or-joined_front : {X : Type 0} (i : ℕ) (columns others : List (List X)) (d : List X) →
     length others ≡ length columns → get_or (joined_front i columns others) i d ≡ get_or columns i d
-get_or-joined_front zero columns others d e = refl
-get_or-joined_front (suc i) [] others d e = refl
 get_or-joined_front (suc i) (column ∷ columns) [] d e = absurd (omega arith)
 get_or-joined_front (suc i) (column ∷ columns) (other ∷ others) d e =
     get_or-joined_front i columns others d (omega arith)
+get_or-joined_front _ _ others d e = refl
 
 joined_more : {X : Type 0} (i : ℕ) (columns others : List (List X)) (d e : List X)
     → i < length columns → length others ≡ length columns → set (joined_front i columns others) i
     (get_or columns i d ++ get_or others i e) ≡ joined_front (suc i) columns others
-joined_more i [] others d e h k = absurd (omega arith)
-joined_more i (column ∷ columns) [] d e h k = absurd (omega arith)
 joined_more zero (column ∷ columns) (other ∷ others) d e h k = refl
 joined_more (suc i) (column ∷ columns) (other ∷ others) d e h k =
     ap (λ l. (column ++ other) ∷ l) (joined_more i columns others d e (omega arith) (omega arith))
+joined_more i _ _ d e h k = absurd (omega arith)
 
 joined_all : {X : Type 0} (i : ℕ) (columns others : List (List X)) → length columns ≤ i
     → length others ≡ length columns → joined_front i columns others ≡ append_each columns others
-joined_all zero [] others h e = refl
 joined_all zero (column ∷ columns) others h e = absurd (omega arith)
-joined_all (suc i) [] others h e = refl
 joined_all (suc i) (column ∷ columns) [] h e = absurd (omega arith)
 joined_all (suc i) (column ∷ columns) (other ∷ others) h e =
     ap (λ l. (column ++ other) ∷ l) (joined_all i columns others (omega arith) (omega arith))
+joined_all _ _ others h e = refl
 
 -- what is taken back
 joined_back : {X : Type 0} (n i : ℕ) (columns others : List (List X)) → AreLong n columns
@@ -67,18 +62,11 @@ joined_back : {X : Type 0} (n i : ℕ) (columns others : List (List X)) → AreL
 joined_back n i [] others h =
     elim i as (λ k. map (take n) (joined_front k [] others) ≡ []) [ zero ↦ refl | suc k ↦ refl ]
 joined_back n zero (column ∷ columns) others h =
-    let a : take n column ≡ column = take_all n column (omega (arith, h.0)) in
-    let b : map (take n) columns ≡ columns = joined_back n zero columns others h.1 in
-    cc
+    search (arith, take_all, joined_back n zero columns others h.1)
 joined_back n (suc i) (column ∷ columns) [] h =
-    let a : take n column ≡ column = take_all n column (omega (arith, h.0)) in
-    let b : map (take n) columns ≡ columns = joined_back n zero columns [] h.1 in
-    cc
+    search (arith, take_all, joined_back n zero columns [] h.1)
 joined_back n (suc i) (column ∷ columns) (other ∷ others) h =
-    let a : take n (column ++ other) ≡ column = take_at column other n h.0 in
-    let b : map (take n) (joined_front i columns others) ≡ columns =
-    joined_back n i columns others h.1 in
-    cc
+    search (arith, take_at, joined_back n i columns others h.1)
 
 pub AreLong-at : {X : Type 0} (n : ℕ) (columns : List (List X)) (i : ℕ) (d : List X)
     → AreLong n columns → i < length columns → length (get_or columns i d) ≡ n

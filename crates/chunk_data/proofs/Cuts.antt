@@ -1,5 +1,5 @@
 -- texts that lie one after another
-use Rattle.chunk_data.proofs.Imports.{All, AreEnds, List, [], ap, arith, cut, drop, drop-append-le, drop-drop, drop-take, drop_at, get_or, get_or-drop, get_or-map, get_or-take, get_or_default, length, length-append, length-drop, length-map, length-take-le, map, refl, slice_range, suc, sym, take, take-append-le, take-map, take-take, take_all, zero, ℕ, ◌++◌, ◌+◌, ◌-◌, ◌<◌, ◌∙◌, ◌∷◌, ◌≡◌, ◌≤◌}
+use Rattle.chunk_data.proofs.Imports.{All, AreEnds, List, [], ap, arith, cut, drop, drop-append-le, drop-drop, drop-take, drop_at, get_or, get_or-drop, get_or-map, get_or-take, length, length-append, length-drop, length-map, length-take-le, map, refl, slice_range, suc, sym, take, take-append-le, take-map, take-take, take_all, zero, ℕ, ◌++◌, ◌+◌, ◌-◌, ◌<◌, ◌∙◌, ◌∷◌, ◌≡◌, ◌≤◌}
 
 pub length-cut : (bytes : List ℕ) (from : ℕ) (ends : List ℕ)
     → length (cut bytes from ends) ≡ length ends
@@ -23,13 +23,7 @@ pub cut-append : (bytes more : List ℕ) (from : ℕ) (ends : List ℕ) → (tot
     total → total ≤ length bytes → cut (bytes ++ more) from ends ≡ cut bytes from ends
 cut-append bytes more from [] total h le = refl
 cut-append bytes more from (end ∷ ends) total h le =
-    let a : end ≤ total = from_le_total end ends total h.1 in
-    let b : end ≤ length bytes = omega arith in
-    let e : slice_range (bytes ++ more) from end ≡ slice_range bytes from end =
-    slice_range-append bytes more from end h.0 b in
-    let r : cut (bytes ++ more) end ends ≡ cut bytes end ends =
-    cut-append bytes more end ends total h.1 le in
-    cc
+    search (arith, from_le_total, slice_range-append, cut-append bytes more end ends total h.1 le)
 
 pub cut_push : (bytes : List ℕ) (from : ℕ) (ends : List ℕ) (end : ℕ) (total : ℕ)
     → AreEnds from ends total
@@ -86,12 +80,7 @@ slice_range-after xs ys i j =
 cut-after : (xs ys : List ℕ) (from : ℕ) (ends : List ℕ)
     → cut (xs ++ ys) (length xs + from) (map (λ e. length xs + e) ends) ≡ cut ys from ends
 cut-after xs ys from [] = refl
-cut-after xs ys from (end ∷ ends) =
-    let a : slice_range (xs ++ ys) (length xs + from) (length xs + end) ≡ slice_range ys from end =
-    slice_range-after xs ys from end in
-    let b : cut (xs ++ ys) (length xs + end) (map (λ e. length xs + e) ends) ≡ cut ys end ends =
-    cut-after xs ys end ends in
-    cc
+cut-after xs ys from (end ∷ ends) = search (arith, slice_range-after, cut-after xs ys end ends)
 
 cut-split : (bytes : List ℕ) (from : ℕ) (ends more : List ℕ) (total : ℕ) → AreEnds from ends total
     → cut bytes from (ends ++ more) ≡ cut bytes from ends ++ cut bytes total more
@@ -153,11 +142,7 @@ cut-take_within : (bytes : List ℕ) (m from : ℕ) (ends : List ℕ) → AreEnd
     → cut (take m bytes) from ends ≡ cut bytes from ends
 cut-take_within bytes m from [] h = refl
 cut-take_within bytes m from (end ∷ ends) h =
-    let a : slice_range (take m bytes) from end ≡ slice_range bytes from end =
-    slice_range-take bytes from end m h.0 (from_le_total end ends m h.1) in
-    let b : cut (take m bytes) end ends ≡ cut bytes end ends =
-    cut-take_within bytes m end ends h.1 in
-    cc
+    search (arith, slice_range-take, from_le_total, cut-take_within bytes m end ends h.1)
 
 cut_front : (bytes : List ℕ) (from : ℕ) (ends : List ℕ) (n : ℕ)
     → cut bytes from (take n ends) ≡ take n (cut bytes from ends)
@@ -182,11 +167,6 @@ pub cut_front_of : (bytes ends : List ℕ) (n size : ℕ) → size ≡ get_or (0
     → AreEnds 0 ends (length bytes) → n ≤ length ends
     → cut (take size bytes) 0 (take n ends) ≡ take n (cut bytes 0 ends)
 cut_front_of bytes ends n size e h k = rw e (cut-take bytes ends (length bytes) n h k)
-
-pub ends_below : (ends : List ℕ) (total by k d : ℕ) → AreEnds 0 ends total → k < length ends
-    → by + get_or ends k d ≤ by + total
-ends_below ends total by k d h lt =
-    omega (arith, end_le_total 0 ends total k h lt, get_or_default ends k d 0 lt)
 
 -- what follows the first n texts
 slice_range-drop : (xs : List ℕ) (s i j : ℕ) → s ≤ i → i ≤ j
@@ -260,9 +240,7 @@ moved_twice (e ∷ ends) by start = ap (λ l. (by + (e - start)) ∷ l) (moved_t
 end_of_rest : (ends : List ℕ) (from n start : ℕ) → start ≡ get_or (0 ∷ ends) from 0
     → from + n ≤ length ends → get_or (0 ∷ map (λ e. e - start) (drop from ends)) n 0
     ≡ get_or (0 ∷ ends) (from + n) 0 - start
-end_of_rest ends from zero start e h =
-    let z : from + 0 ≡ from = omega arith in
-    rw (z, ← e) (omega arith)
+end_of_rest ends from zero start e h = search arith
 end_of_rest ends from (suc n) start e h =
     let z : from + suc n ≡ suc (from + n) = omega arith in
     let lt : n < length (drop from ends) = rw length-drop (omega arith) in
@@ -298,9 +276,7 @@ range_of bytes ends from n start end h le s e =
 
 pub start_le_start : (ends : List ℕ) (total from n : ℕ) → AreEnds 0 ends total
     → from + n ≤ length ends → get_or (0 ∷ ends) from 0 ≤ get_or (0 ∷ ends) (from + n) 0
-start_le_start ends total from zero h le =
-    let z : from + 0 ≡ from = omega arith in
-    rw z (omega arith)
+start_le_start ends total from zero h le = search arith
 start_le_start ends total from (suc n) h le =
     let front : from ≤ length ends = omega arith in
     let lt : n < length (drop from ends) = rw length-drop (omega arith) in

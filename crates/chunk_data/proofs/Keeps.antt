@@ -8,10 +8,9 @@ bool_byte-cond false = refl
 pub kept-append : {X : Type 0} (ms ns : List Bool) (xs ys : List X) → length ms ≡ length xs
     → kept (ms ++ ns) (xs ++ ys) ≡ kept ms xs ++ kept ns ys
 kept-append [] ns [] ys e = refl
-kept-append [] ns (x ∷ xs) ys e = absurd (omega arith)
-kept-append (m ∷ ms) ns [] ys e = absurd (omega arith)
 kept-append (true ∷ ms) ns (x ∷ xs) ys e = ap (λ l. x ∷ l) (kept-append ms ns xs ys (omega arith))
 kept-append (false ∷ ms) ns (x ∷ xs) ys e = kept-append ms ns xs ys (omega arith)
+kept-append _ ns _ ys e = absurd (omega arith)
 
 pub kept_more : {X : Type 0} (ms : List Bool) (xs : List X) (i : ℕ) (d : X) → i < length ms
     → i < length xs → kept (take (i + 1) ms) (take (i + 1) xs)

@@ -1,5 +1,5 @@
 -- The law between rows and columns, for all code that works column by column.
-use Rattle.chunk_data.proofs.Imports.{All, AreLong, Column, ColumnType, FitsType, FitsTypes, Int64, List, PlainColumn, Row, Text, UInt64, Value, [], adds, ap, arith, get_or, get_or-replicate, append_each, column_type, length, length-map, length-replicate, map, plain_column_type, plain_values, refl, replicate, rows_of, suc, sym, value_at, values, zero, ℕ, ◌++◌, ◌+◌, ◌<◌, ◌∙◌, ◌∷◌, ◌≡◌, PlainType, same_plain, true}
+use Rattle.chunk_data.proofs.Imports.{All, AreLong, Column, ColumnType, FitsType, FitsTypes, Int64, List, PlainColumn, Row, Text, UInt64, Value, [], adds, ap, arith, get_or, get_or-replicate, append_each, column_type, length, length-map, length-replicate, map, plain_column_type, plain_values, refl, replicate, rows_of, suc, sym, values, zero, ℕ, ◌++◌, ◌+◌, ◌<◌, ◌∙◌, ◌∷◌, ◌≡◌, PlainType, same_plain, true}
 use Rattle.chunk_data.specs.declared.typed_value.ColumnType.TheVariants as type
 use Rattle.chunk_data.specs.declared.typed_value.PlainType.TheVariants as plain
 use Rattle.chunk_data.specs.declared.typed_value.Value.TheVariants as value
@@ -44,17 +44,14 @@ rows_of_made value es rows columns n c e = rw (c, e) (rows_of-made value es rows
 joined-replicate : {X : Type 0} (n : ℕ) (rows : List (List X)) → length rows ≡ n
     → append_each (replicate n []) rows ≡ rows
 joined-replicate zero [] e = refl
-joined-replicate zero (row ∷ rows) e = absurd (omega arith)
-joined-replicate (suc n) [] e = absurd (omega arith)
 joined-replicate (suc n) (row ∷ rows) e = ap (λ l. row ∷ l) (joined-replicate n rows (omega arith))
+joined-replicate _ _ e = absurd (omega arith)
 
 joined-adds : {X : Type 0} (column : List X) (rows others : List (List X))
     → adds column (append_each rows others) ≡ append_each (adds column rows) others
-joined-adds [] rows others = refl
-joined-adds (x ∷ column) [] others = refl
-joined-adds (x ∷ column) (row ∷ rows) [] = refl
 joined-adds (x ∷ column) (row ∷ rows) (other ∷ others) =
     ap (λ l. (x ∷ (row ++ other)) ∷ l) (joined-adds column rows others)
+joined-adds _ _ _ = refl
 
 pub AreLong-append : {X : Type 0} (n : ℕ) (columns others : List (List X)) → AreLong n columns
     → AreLong n others → AreLong n (columns ++ others)
@@ -83,17 +80,15 @@ same_plain-is p q h = absurd cc
 pub length-FitsTypes : (types : List ColumnType) (row : Row) → FitsTypes types row
     → length row ≡ length types
 length-FitsTypes [] [] h = refl
-length-FitsTypes [] (v ∷ row) h = absurd h
-length-FitsTypes (t ∷ types) [] h = absurd h
 length-FitsTypes (t ∷ types) (v ∷ row) h = ap suc (length-FitsTypes types row h.1)
+length-FitsTypes _ _ h = absurd h
 
 pub FitsTypes-at : (types : List ColumnType) (row : Row) (c : ℕ) (t : ColumnType) (v : Value)
     → FitsTypes types row → c < length row → FitsType (get_or types c t) (get_or row c v)
 FitsTypes-at [] [] c t v h lt = absurd (omega arith)
-FitsTypes-at [] (w ∷ row) c t v h lt = absurd h
-FitsTypes-at (s ∷ types) [] c t v h lt = absurd h
 FitsTypes-at (s ∷ types) (w ∷ row) zero t v h lt = h.0
 FitsTypes-at (s ∷ types) (w ∷ row) (suc c) t v h lt = FitsTypes-at types row c t v h.1 (omega arith)
+FitsTypes-at _ _ c t v h lt = absurd h
 
 all_mapped : {X : Type 0} (P : Value → Type 0) (f : X → Value) → ((x : X) → P (f x)) → (xs : List X)
     → All P (map f xs)
@@ -132,21 +127,3 @@ rows_fit [] n h = search (arith, get_or-replicate, length-replicate)
 rows_fit (column ∷ columns) n h = all_adds (column_type column) (map column_type columns)
     (values column) (rows_of n (map values columns)) (h.0
     ∙ sym (length-rows_of n (map values columns) h.1)) (all_fit column) (rows_fit columns n h.1)
-
--- ---- a column of rows that fit
-pub column_fits : (types : List ColumnType) (rows : List Row) (c : ℕ) (t : ColumnType)
-    → All (FitsTypes types) rows → c < length types
-    → All (FitsType (get_or types c t)) (map (λ row. value_at row c) rows)
-column_fits types [] c t h lt = λ k d l. absurd (omega arith)
-column_fits types (row ∷ rows) c t h lt =
-    let here : FitsTypes types row = h 0 row (omega arith) in
-    let more : All (FitsType (get_or types c t)) (map (λ row. value_at row c) rows) =
-    column_fits types rows c t (λ k d l. h (suc k) d (omega arith)) lt in
-    λ k d l. elim k as (λ k. k < length (map (λ row. value_at row c) (row ∷ rows))
-    → FitsType (get_or types c t) (get_or (map (λ row. value_at row c) (row ∷ rows)) k d)) [
-      | zero ↦ λ _. FitsTypes-at types row c t _ here
-          (omega (arith, length-FitsTypes types row here))
-      | suc k ↦ λ l. more k d (omega arith)
-    ] l
-
--- ---- keys of chunks of the same types

@@ -8,5 +8,4 @@ pub mod ColumnLists
 pub mod Chunks
 pub mod Laws
 pub mod RowOrder
-pub mod Crossing
 pub mod Places

@@ -1,5 +1,5 @@
 -- Laws of lists by their places: one that is set, numbers that stand once, and counts.
-use Rattle.chunk_data.proofs.Imports.{Bool, List, [], ap, arith, cases_eq, cases_lt, cond, count_by, eqb-true, false, false_from_ne_true, get_or, get_or-append_right, get_or-map, get_or-set_other, get_or-set_same, get_or_append_left, inl, inr, length, length-append, length-map, length-set, map, map-set, refl, rules, set, subst, suc, sum_by-cons, sym, true, zero, ℕ, ◌++◌, ◌+◌, ◌-◌, ◌<◌, ◌==◌, ◌∙◌, ◌∷◌, ◌≡◌, ◌≢◌, ◌≤◌}
+use Rattle.chunk_data.proofs.Imports.{Bool, List, [], ap, arith, cases_lt, cond, count_by, eqb-true, false, false_from_ne_true, get_or, get_or-append_right, get_or-map, get_or-set_other, get_or-set_same, get_or_append_left, inl, inr, length, length-append, length-map, length-set, map, map-set, refl, rules, set, subst, suc, sum_by-cons, sym, true, zero, ℕ, ◌++◌, ◌+◌, ◌-◌, ◌<◌, ◌==◌, ◌∙◌, ◌∷◌, ◌≡◌, ◌≢◌, ◌≤◌}
 use Rattle.chunk_data.specs.Places.{AreOnce, Changes}
 
 -- ---- one place
@@ -7,11 +7,7 @@ use Rattle.chunk_data.specs.Places.{AreOnce, Changes}
 -- what holds of each place of a list in which one place was set
 pub at-set : {A : Type 0} (P : A → Type 0) (xs : List A) (n m : ℕ) (y past : A) → n < length xs
     → (m ≡ n → P y) → (m ≢ n → P (get_or xs m past)) → P (get_or (set xs n y) m past)
-at-set P xs n m y past lt here other = elim (cases_eq m n) [
-  | inl e ↦ subst P (sym (ap (λ k. get_or (set xs n y) k past) e
-      ∙ get_or-set_same xs n y past lt)) (here e)
-  | inr ne ↦ subst P (sym (get_or-set_other xs n m y past ne)) (other ne)
-]
+at-set P xs n m y past lt here other = search (arith, get_or-set_same, get_or-set_other)
 
 -- a place that is set has changed alone
 pub Changes-set : {A : Type 0} (past : A) (n : ℕ) (R : A → A → Type 0) (xs : List A) (y : A)

@@ -1,10 +1,9 @@
 -- comparing rows key by key
-use Rattle.chunk_data.proofs.Imports.{Equal, Greater, Less, List, Ordering, Row, SortKey, ap, drop, drop_all, drop_more, get_or, key_cmp, length, ordering_then, refl, row_cmp, sym, value_at, ℕ, ◌+◌, ◌<◌, ◌∙◌, ◌≡◌, ◌≤◌}
+use Rattle.chunk_data.proofs.Imports.{Equal, List, Ordering, Row, SortKey, ap, drop, drop_all, drop_more, get_or, key_cmp, length, ordering_then, refl, row_cmp, sym, value_at, ℕ, ◌+◌, ◌<◌, ◌∙◌, ◌≡◌, ◌≤◌}
 
 first_unequal : (a b : Ordering) → (a ≡ Equal → ⊥) → ordering_then a b ≡ a
-first_unequal Less b h = refl
 first_unequal Equal b h = absurd (h refl)
-first_unequal Greater b h = refl
+first_unequal _ b h = refl
 
 -- the keys from one on: that key first, then the others
 pub row_cmp-drop : (keys : List SortKey) (i : ℕ) (d : SortKey) (a b : Row) → i < length keys

@@ -20,29 +20,23 @@ beside n column columns e h = e ∙ sym (length-rows_of n columns h)
 adds-append : {X : Type 0} (a b : List X) (r s : List (List X)) → length a ≡ length r
     → adds (a ++ b) (r ++ s) ≡ adds a r ++ adds b s
 adds-append [] b [] s e = refl
-adds-append [] b (row ∷ r) s e = absurd (omega arith)
-adds-append (x ∷ a) b [] s e = absurd (omega arith)
 adds-append (x ∷ a) b (row ∷ r) s e = ap (λ l. (x ∷ row) ∷ l) (adds-append a b r s (omega arith))
+adds-append _ b _ s e = absurd (omega arith)
 
 -- ---- more rows
 pub AreLong-joined : {X : Type 0} (n m : ℕ) (columns others : List (List X)) → AreLong n columns
     → AreLong m others → AreLong (n + m) (append_each columns others)
-AreLong-joined n m [] others h k = tt
-AreLong-joined n m (column ∷ columns) [] h k = tt
-AreLong-joined n m (column ∷ columns) (other ∷ others) h k = (
-  length-append column other
-      ∙ omega (arith, h.0, k.0),
-  AreLong-joined n m columns others h.1 k.1,
-)
+AreLong-joined n m (column ∷ columns) (other ∷ others) h k =
+    search (arith, length-append, AreLong-joined n m columns others h.1 k.1)
+AreLong-joined n m _ _ h k = tt
 
 pub rows_of-joined : {X : Type 0} (n m : ℕ) (columns others : List (List X)) → AreLong n columns
     → AreLong m others → length others ≡ length columns
     → rows_of (n + m) (append_each columns others) ≡ rows_of n columns ++ rows_of m others
 rows_of-joined n m [] [] h k e = sym (replicate-append-replicate n m [])
-rows_of-joined n m [] (other ∷ others) h k e = absurd (omega arith)
-rows_of-joined n m (column ∷ columns) [] h k e = absurd (omega arith)
 rows_of-joined n m (column ∷ columns) (other ∷ others) h k e =
     search (arith, adds-append, beside, rows_of-joined n m columns others h.1 k.1 (omega arith))
+rows_of-joined n m _ _ h k e = absurd (omega arith)
 
 -- one row, as columns of one value
 pub AreLong-row : {X : Type 0} (row : List X) → AreLong 1 (map (λ v. v ∷ []) row)
@@ -62,13 +56,12 @@ rows_of_push n columns row h e =
 -- ---- fewer rows
 kept-adds : {X : Type 0} (mask : List Bool) (column : List X) (rows : List (List X)) → length column
     ≡ length rows → kept mask (adds column rows) ≡ adds (kept mask column) (kept mask rows)
-kept-adds [] column rows e = refl
-kept-adds (m ∷ mask) [] [] e = refl
 kept-adds (m ∷ mask) [] (row ∷ rows) e = absurd (omega arith)
 kept-adds (m ∷ mask) (x ∷ column) [] e = absurd (omega arith)
 kept-adds (true ∷ mask) (x ∷ column) (row ∷ rows) e =
     ap (λ l. (x ∷ row) ∷ l) (kept-adds mask column rows (omega arith))
 kept-adds (false ∷ mask) (x ∷ column) (row ∷ rows) e = kept-adds mask column rows (omega arith)
+kept-adds _ _ _ e = refl
 
 trues : List Bool → ℕ
 trues [] = 0
@@ -110,10 +103,8 @@ rows_of-kept mask n (column ∷ columns) h e =
 
 take-adds : {X : Type 0} (m : ℕ) (column : List X) (rows : List (List X))
     → adds (take m column) (take m rows) ≡ take m (adds column rows)
-take-adds zero column rows = refl
-take-adds (suc m) [] rows = refl
-take-adds (suc m) (x ∷ column) [] = refl
 take-adds (suc m) (x ∷ column) (row ∷ rows) = ap (λ l. (x ∷ row) ∷ l) (take-adds m column rows)
+take-adds _ _ _ = refl
 
 pub AreLong-take : {X : Type 0} (m n : ℕ) (columns : List (List X)) → AreLong n columns → m ≤ n
     → AreLong m (map (take m) columns)
@@ -128,10 +119,9 @@ rows_of-take m n (column ∷ columns) le = search (arith, take-adds, rows_of-tak
 
 drop-adds : {X : Type 0} (m : ℕ) (column : List X) (rows : List (List X))
     → length column ≡ length rows → adds (drop m column) (drop m rows) ≡ drop m (adds column rows)
-drop-adds zero column rows e = refl
-drop-adds (suc m) [] rows e = refl
 drop-adds (suc m) (x ∷ column) [] e = absurd (omega arith)
 drop-adds (suc m) (x ∷ column) (row ∷ rows) e = drop-adds m column rows (omega arith)
+drop-adds _ _ rows e = refl
 
 pub AreLong-drop : {X : Type 0} (m n : ℕ) (columns : List (List X)) → AreLong n columns
     → AreLong (n - m) (map (drop m) columns)
@@ -148,11 +138,10 @@ rows_of-drop m n (column ∷ columns) h = ap (λ l. adds (drop m column) l) (row
 get_or-adds : {X : Type 0} (column : List X) (rows : List (List X)) (p : ℕ) (d : X)
     → length column ≡ length rows → p < length column
     → get_or (adds column rows) p [] ≡ get_or column p d ∷ get_or rows p []
-get_or-adds [] rows p d e lt = absurd (omega arith)
-get_or-adds (x ∷ column) [] p d e lt = absurd (omega arith)
 get_or-adds (x ∷ column) (row ∷ rows) zero d e lt = refl
 get_or-adds (x ∷ column) (row ∷ rows) (suc p) d e lt =
     get_or-adds column rows p d (omega arith) (omega arith)
+get_or-adds _ _ p d e lt = absurd (omega arith)
 
 adds-places : {X : Type 0} (column : List X) (rows : List (List X)) (places : List ℕ) (d : X)
     → length column ≡ length rows → All (λ p. p < length column) places
@@ -196,10 +185,9 @@ column-adds : {X : Type 0} (column : List X) (rows : List (List X)) (c : ℕ) (d
     → length column ≡ length rows
     → map (λ row. get_or row (suc c) d) (adds column rows) ≡ map (λ row. get_or row c d) rows
 column-adds [] [] c d e = refl
-column-adds [] (row ∷ rows) c d e = absurd (omega arith)
-column-adds (x ∷ column) [] c d e = absurd (omega arith)
 column-adds (x ∷ column) (row ∷ rows) c d e =
     ap (λ l. get_or row c d ∷ l) (column-adds column rows c d (omega arith))
+column-adds _ _ c d e = absurd (omega arith)
 
 first-adds : {X : Type 0} (column : List X) (rows : List (List X)) (d : X)
     → length column ≡ length rows → map (λ row. get_or row 0 d) (adds column rows) ≡ column

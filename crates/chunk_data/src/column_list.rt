@@ -1,5 +1,4 @@
-ghost use Rattle.std.specs.Prelude.{◌≡◌, ℕ, ◌+◌, ◌≤◌, ◌<◌, ◌++◌, ◌∷◌, [], length, map, take, drop, OnOk, OnErr, IfOk};
-ghost use Rattle.std.specs.List.{All, count_by};
+ghost use Rattle.std.specs.Prelude.{◌≡◌, ℕ, ◌+◌, ◌≤◌, ◌<◌, ◌++◌, ◌∷◌, [], length, map, take, drop, OnOk, OnErr, IfOk, All, count_by};
 ghost use Rattle.chunk_data.specs.Names.{FitsTypes, value_at, column_type, values, kept, append_each, value_range, AreLong};
 
 use crate::lists::{List, Memory};
@@ -7,7 +6,6 @@ use crate::typed_column::Column;
 use crate::typed_value::{ColumnType, Value};
 use std::alloc::Global;
 
-/// How many are true.
 pub(crate) fn count_true(mask: &[bool]) -> usize
     ensures { result ≡ count_by (λ m. m) mask.now }
 {
@@ -26,7 +24,6 @@ pub fn empty_columns(alloc: Global, kinds: &[ColumnType]) -> Result<Vec<Column>,
     Ok(columns)
 }
 
-/// Keeps in each column the values whose place in the mask has true.
 pub(crate) fn keep_all(columns: &mut [Column], mask: &[bool])
     requires { AreLong (length mask.now) (map values columns.old) }
     ensures kinds { map column_type columns.new ≡ map column_type columns.old }
@@ -99,7 +96,6 @@ pub(crate) fn push_all(columns: &mut [Column], row: &[Value], count: usize) -> R
     Ok(())
 }
 
-/// The types of the columns.
 pub(crate) fn kinds_of(alloc: Global, columns: &[Column]) -> Result<List<ColumnType>, Memory>
     ensures { IfOk result (λ l. l ≡ map column_type columns.now) }
 {
@@ -110,7 +106,6 @@ pub(crate) fn kinds_of(alloc: Global, columns: &[Column]) -> Result<List<ColumnT
     Ok(List::from_vec(kinds))
 }
 
-/// The columns, then the others.
 pub(crate) fn beside_all(
     mut columns: Vec<Column>,
     others: Vec<Column>,
@@ -124,7 +119,6 @@ pub(crate) fn beside_all(
     Ok(List::from_vec(columns))
 }
 
-/// Each column's values at the places.
 pub(crate) fn gather_all(
     alloc: Global,
     columns: &[Column],
@@ -144,7 +138,6 @@ pub(crate) fn gather_all(
     Ok(gathered)
 }
 
-/// Each column's value at i.
 pub(crate) fn row_of(
     alloc: Global,
     columns: &[Column],
@@ -163,7 +156,6 @@ pub(crate) fn row_of(
     Ok(List::from_vec(row))
 }
 
-/// Leaves of each column what follows its first n values.
 pub(crate) fn remove_front_all(columns: &mut [Column], n: usize)
     ensures kinds { map column_type columns.new ≡ map column_type columns.old }
     ensures rest { map values columns.new ≡ map (drop n) (map values columns.old) }

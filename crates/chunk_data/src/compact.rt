@@ -1,5 +1,4 @@
-ghost use Rattle.std.specs.Prelude.{◌≡◌, length, vec_len, slice_index_or, map, ◌<◌, IfOk, pos, ◌≤◌, drop, take};
-ghost use Rattle.std.specs.List.{All};
+ghost use Rattle.std.specs.Prelude.{◌≡◌, length, vec_len, slice_index_or, map, ◌<◌, IfOk, pos, ◌≤◌, drop, take, All};
 ghost use Rattle.chunk_data.specs.Rows.{kept};
 
 use crate::lists::Memory;
@@ -18,7 +17,6 @@ pub(crate) fn keep_items<T: Copy>(items: &mut Vec<T>, mask: &[bool])
     items.truncate(count);
 }
 
-/// The numbers at the places, in the places' order.
 pub(crate) fn gather_ints(items: &Vec<i64>, places: &[usize]) -> Result<Vec<i64>, Memory>
     requires { All (λ p. p < length items.now.items) places.now }
     ensures { IfOk result
@@ -33,7 +31,6 @@ pub(crate) fn gather_ints(items: &Vec<i64>, places: &[usize]) -> Result<Vec<i64>
     )
 }
 
-/// The same for numbers without a sign.
 pub(crate) fn gather_uints(items: &Vec<u64>, places: &[usize]) -> Result<Vec<u64>, Memory>
     requires { All (λ p. p < length items.now.items) places.now }
     ensures { IfOk result
@@ -48,14 +45,12 @@ pub(crate) fn gather_uints(items: &Vec<u64>, places: &[usize]) -> Result<Vec<u64
     )
 }
 
-/// The same elements.
 pub(crate) fn copy_items<T: Copy>(items: &Vec<T>) -> Result<Vec<T>, Memory>
     ensures { IfOk result (λ v. v.items ≡ items.now.items) }
 {
     Ok(Vec::from_slice(*items.allocator(), items.as_slice())?)
 }
 
-/// Drops the first n.
 pub(crate) fn remove_front<T: Copy>(items: &mut Vec<T>, n: usize)
     ensures { items.new.items ≡ drop n items.old.items }
 {

@@ -1,5 +1,4 @@
-ghost use Rattle.std.specs.Prelude.{◌≡◌, ◌<◌, length};
-ghost use Rattle.std.specs.List.{All};
+ghost use Rattle.std.specs.Prelude.{◌≡◌, ◌<◌, length, All};
 ghost use Rattle.chunk_data.specs.Names.{AgreeOnKey, key_cmp, row_cmp, value_at, row_at};
 
 use crate::row_chunk::Chunk;
@@ -24,7 +23,6 @@ impl Chunk {
     }
 }
 
-// How row i of the one chunk compares with row j of the other by one key.
 fn compare_by(left: &Chunk, i: usize, right: &Chunk, j: usize, key: &SortKey) -> Ordering
     requires here { i < length left.now.rows }
     requires there { j < length right.now.rows }

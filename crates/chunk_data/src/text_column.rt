@@ -1,6 +1,4 @@
-ghost use Rattle.std.specs.Prelude.{◌≡◌, ℕ, ◌+◌, ◌≤◌, ◌<◌, ◌++◌, ◌∷◌, List, [], length, ◌^◌, map, take, drop, ◌-◌, slice_index, slice_index_or, OnOk, OnErr, IfOk};
-ghost use Rattle.std.specs.List.{All, slice_range};
-ghost use Rattle.std.specs.Vec.{vec_len, vec_capacity};
+ghost use Rattle.std.specs.Prelude.{◌≡◌, ℕ, ◌+◌, ◌≤◌, ◌<◌, ◌++◌, ◌∷◌, List, [], length, ◌^◌, map, take, drop, ◌-◌, slice_index, slice_index_or, OnOk, OnErr, IfOk, All, slice_range, vec_len, vec_capacity};
 ghost use Rattle.chunk_data.specs.Names.{kept, cut, AreEnds};
 
 use crate::compact::{copy_items, remove_front};
@@ -156,7 +154,6 @@ impl Texts {
     }
 }
 
-// Each end moved down.
 fn shift_down(ends: &mut Vec<usize>, by: usize)
     requires { All (λ end. by ≤ end) ends.old.items }
     ensures { ends.new.items ≡ map (λ end. end - by) ends.old.items }
@@ -202,7 +199,6 @@ fn keep_texts(bytes: &mut Vec<u8>, ends: &mut Vec<usize>, mask: &[bool])
     ends.truncate(count);
 }
 
-// Where text `i` begins.
 fn start_of(ends: &[usize], i: usize) -> usize
     requires { i ≤ length ends.now }
     ensures { result ≡ slice_index (0 ∷ ends.now) i }
@@ -210,7 +206,6 @@ fn start_of(ends: &[usize], i: usize) -> usize
     if i == 0 { 0 } else { ends[i - 1] }
 }
 
-// The bytes of n texts from a place on.
 #[tactic(auto, using(crate::proofs::Cuts::cuts))]
 fn bytes_of<'a>(bytes: &'a [u8], ends: &[usize], from: usize, n: usize) -> &'a [u8]
     requires ends { AreEnds 0 ends.now (length bytes.now) }

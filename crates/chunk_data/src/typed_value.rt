@@ -37,9 +37,7 @@ impl ColumnType {
         ensures { result ≡ is_nullable self }
     {
         match self {
-            ColumnType::Int64 => false,
-            ColumnType::UInt64 => false,
-            ColumnType::Text => false,
+            ColumnType::Int64 | ColumnType::UInt64 | ColumnType::Text => false,
         }
     }
 
@@ -48,8 +46,7 @@ impl ColumnType {
         ensures { result ≡ is_text self }
     {
         match self.plain() {
-            PlainType::Int64 => false,
-            PlainType::UInt64 => false,
+            PlainType::Int64 | PlainType::UInt64 => false,
             PlainType::Text => true,
         }
     }

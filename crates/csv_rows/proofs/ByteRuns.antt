@@ -1,7 +1,5 @@
 -- A run of bytes that fail p, seen a vector at a time through the mask of those that pass it.
-use Rattle.std.proofs.Common.{◌≡◌, ℕ, ◌+◌, ◌*◌, ◌<◌, ◌≤◌, Bool, not, cond, eqb, List, [], ◌∷◌, map, length, drop, refl, ap, ◌∙◌, arith, true, false, sym}
-use Rattle.csv_rows.proofs.Imports.{chunk, chunk-drop, eq-eqb, leading_from_mask_l, length-chunk, length-drop, mask_l, ne_eqb, prefix_len, prefix_len-le-length, trailing_mask_l}
-use Rattle.std.proofs.lemmas.List.Folds.{prefix_len-append}
+use Rattle.csv_rows.proofs.Imports.{◌≡◌, ℕ, ◌+◌, ◌*◌, ◌<◌, ◌≤◌, Bool, not, cond, eqb, List, [], ◌∷◌, map, length, drop, refl, ap, ◌∙◌, arith, true, false, sym, prefix_len-append, chunk, chunk-drop, eq-eqb, leading_from_mask_l, length-chunk, length-drop, mask_l, ne_eqb, prefix_len, prefix_len-le-length, trailing_mask_l}
 use lib.Count.{count_trailing_zeros}
 
 -- a run ends within the list

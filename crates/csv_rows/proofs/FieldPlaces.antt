@@ -1,6 +1,6 @@
 -- Fields by their places.
-use Rattle.std.proofs.Common.{◌≡◌, ℕ, ◌+◌, ◌<◌, ◌≤◌, ◌==◌, ◌||◌, Bool, true, false, List, [], ◌∷◌, ◌++◌, length, take, drop, get_or, sym, ap, ◌∙◌, arith, append_assoc, length-append, refl}
-use Rattle.csv_rows.proofs.Imports.{EndsRecord, FieldUpTo, HasMore, SkipsEnds, append-nil, at_mark, dec_lt, default_config, drop-drop, drop_all, drop_more, eqb-true, first_or, is_line_end, next_record, no_mark, no_quote, bytes_between, prefix_len, records_at, starts_with, is_mark}
+use Rattle.csv_rows.proofs.Imports.{◌≡◌, ℕ, ◌+◌, ◌<◌, ◌≤◌, ◌==◌, ◌||◌, Bool, true, false, List, [], ◌∷◌, ◌++◌, length, take, drop, get_or, sym, ap, ◌∙◌, arith, append_assoc, refl, EndsRecord, FieldUpTo, HasMore, SkipsEnds, append-nil, at_mark, dec_lt, default_config, drop-drop, drop_all, drop_more, eqb-true, first_or, is_line_end, next_record, no_mark, no_quote, bytes_between, prefix_len, records_at, starts_with, is_mark}
+use Rattle.std.proofs.Common.{length-append}
 use Rattle.csv.specs.declared.parser.State.TheVariants as st
 use Rattle.csv_rows.proofs.ByteRuns.{run_bound}
 use Rattle.csv_rows.proofs.MachineSteps.{copies_join_field, quoted_copies, prefix_stops, plain_run, plain_field, one_more, records_skip, last_in_line, last_of_text}

@@ -1,7 +1,5 @@
 -- The machine of the `csv` crate, by fields and lines.
-use Rattle.std.proofs.Common.{◌≡◌, ℕ, suc, ◌+◌, ◌==◌, ◌&&◌, Bool, true, false, cond, not, List, [], ◌∷◌, ◌++◌, take, drop, refl, ap, ◌∙◌, arith, append_assoc, Option, Some, None}
-use Rattle.csv_rows.proofs.Imports.{BeginsField, BeginsFields, FirstRecord, IsSome, Read, and_parts, append-nil, at_end, default_config, ends_at_end, eqb-true, first_or, is_end, is_line_end, next_record, no_mark, no_quote, not-true, or_cases, or_parts, prefix_len, records_from, records_next, starts_line, starts_with, state_code, step, is_mark}
-use Rattle.csv.specs.declared.parser.State.{State}
+use Rattle.csv_rows.proofs.Imports.{◌≡◌, ℕ, suc, ◌+◌, ◌==◌, ◌&&◌, Bool, true, false, cond, not, List, [], ◌∷◌, ◌++◌, take, drop, refl, ap, ◌∙◌, arith, append_assoc, Option, Some, None, State, BeginsField, BeginsFields, FirstRecord, IsSome, Read, and_parts, append-nil, at_end, default_config, ends_at_end, eqb-true, first_or, is_end, is_line_end, next_record, no_mark, no_quote, not-true, or_cases, or_parts, prefix_len, records_from, records_next, starts_line, starts_with, state_code, step, is_mark}
 use Rattle.csv.specs.declared.parser.State.TheVariants as st
 use Rattle.csv.specs.declared.parser.Action.TheVariants as act
 

@@ -1,10 +1,8 @@
 -- What is left of a part at a place.
-use Rattle.std.proofs.Common.{◌≡◌, ◌≢◌, ℕ, zero, suc, ◌+◌, ◌-◌, ◌<◌, ◌≤◌, Bool, true, false, cond, List, [], ◌∷◌, length, drop, map, get_or, refl, sym, ap, ◌∙◌, arith, length-drop, eq-eqb, Some}
-use Rattle.csv_rows.proofs.Imports.{AddsFirst, Column, FieldUpTo, FirstRecord, HasMore, IsBadRecordAt, OnBad, RowsLeft, SkipsEnds, StartsLine, StartsPart, TakesRow, at_end, dec_lt, default_config, drop_all, is_bom, column_type, nat_eq, ne_eqb, records, records_at, records_from, spelled_row-fits, starts_line, strip_bom}
+use Rattle.csv_rows.proofs.Imports.{◌≡◌, ◌≢◌, ℕ, zero, suc, ◌+◌, ◌-◌, ◌<◌, ◌≤◌, Bool, true, false, cond, List, [], ◌∷◌, length, drop, map, get_or, refl, sym, ap, ◌∙◌, arith, Some, RowsFault, Bad, Memory, AddsFirst, Column, FieldUpTo, FirstRecord, HasMore, IsBadRecordAt, OnBad, RowsLeft, SkipsEnds, StartsLine, StartsPart, TakesRow, at_end, dec_lt, default_config, drop_all, is_bom, column_type, nat_eq, ne_eqb, records, records_at, records_from, spelled_row-fits, starts_line, strip_bom}
+use Rattle.std.proofs.Common.{length-drop, eq-eqb}
 use Rattle.csv.specs.declared.parser.State.TheVariants as st
 use Rattle.query_model.specs.Parts.{part_records, good_rows, bad_place}
-use Rattle.csv_rows.specs.declared.rows.RowsFault.{RowsFault}
-use Rattle.csv_rows.specs.declared.rows.RowsFault.TheVariants.{Bad, Memory}
 use Rattle.csv_rows.proofs.MachineSteps.{record_left, record_starts, records_nil}
 
 -- no record is left behind the end

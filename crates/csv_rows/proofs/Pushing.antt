@@ -1,11 +1,7 @@
 -- records that are added to columns field by field
-use Rattle.chunk_data.proofs.ColumnLists.{Joined-back, Joined-none}
+use Rattle.csv_rows.proofs.Imports.{Joined-back, Joined-none, RecordRead, Fields as fields_field, Bool, List, None, [], ap, append_assoc, ap₂, arith, drop, false, get_or, length, map, refl, set, subst, suc, take, true, zero, ℕ, ◌++◌, ◌+◌, ◌<◌, ◌∙◌, ◌∷◌, ◌≡◌, ◌≢◌, ◌≤◌, sym, AddsRecord, AddsSpelled, AreLong, AreLong_push, BeginsFields, Column, EndsRecord, FieldUpTo, HasMore, IsBadRecordAt, Judged, PushesField, PushesFirst, ReadsFirst, ReadsFront, RowsLeft, CanTakeBack, TakesRow, at_end, bad_column, bad_field-lengths, bad_place, both_spelled, get_or-map, good_rows, column_type, length-FitsTypes, length-append, length-map, length-rows_of, map-set, rows_of, rows_of_push, set-get_or, spelled_row, spelled_row-lengths, spelled_value, starts_line, starts_with, take_at, values}
 use Rattle.csv_rows.proofs.FieldPlaces.{first_is, first_within}
 use Rattle.csv_rows.proofs.MachineSteps.{one_more, record_starts}
-use Rattle.csv_rows.proofs.Imports.{AddsRecord, AddsSpelled, AreLong, AreLong_push, BeginsFields, Column, EndsRecord, FieldUpTo, HasMore, IsBadRecordAt, Judged, PushesField, PushesFirst, ReadsFirst, ReadsFront, RowsLeft, CanTakeBack, TakesRow, at_end, bad_column, bad_field-lengths, bad_place, both_spelled, get_or-map, good_rows, column_type, length-FitsTypes, length-append, length-map, length-rows_of, map-set, rows_of, rows_of_push, set-get_or, spelled_row, spelled_row-lengths, spelled_value, starts_line, starts_with, take_at, values}
-use Rattle.csv_rows.specs.declared.record_by_field.RecordRead.{RecordRead}
-use Rattle.query_model.specs.declared.places.BadField.TheVariants.{Fields as fields_field}
-use Rattle.std.proofs.Common.{Bool, List, None, [], ap, append_assoc, ap₂, arith, drop, false, get_or, length, map, refl, set, subst, suc, take, true, zero, ℕ, ◌++◌, ◌+◌, ◌<◌, ◌∙◌, ◌∷◌, ◌≡◌, ◌≢◌, ◌≤◌, sym}
 
 -- the fields were added to the first columns, one to each, and the others are as they were
 abbrev pub Front : List (List ℕ) → List Column → List Column → Type 0

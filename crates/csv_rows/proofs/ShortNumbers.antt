@@ -1,7 +1,5 @@
 -- Numbers of few digits.
-use Rattle.std.proofs.Common.{◌≡◌, ℕ, suc, ◌+◌, ◌-◌, ◌*◌, ◌^◌, ◌<◌, ◌≤◌, ◌&&◌, Bool, true, false, cond, List, length, drop, get_or, refl, sym, ap, ◌∙◌, arith, Option, None}
-use Rattle.csv_rows.proofs.Imports.{is_ascii_digit, nat_lt, with_digits, with_digits-step}
-use Rattle.std.proofs.Math.Nat.{pow-suc, pow-le-pow_right}
+use Rattle.csv_rows.proofs.Imports.{◌≡◌, ℕ, suc, ◌+◌, ◌-◌, ◌*◌, ◌^◌, ◌<◌, ◌≤◌, ◌&&◌, Bool, true, false, cond, List, length, drop, get_or, refl, sym, ap, ◌∙◌, arith, Option, None, pow-suc, pow-le-pow_right, is_ascii_digit, nat_lt, with_digits, with_digits-step}
 
 -- the number, if what was read of a field is good, with the digits behind it
 abbrev pub read_on : Bool → ℕ → List ℕ → Option ℕ

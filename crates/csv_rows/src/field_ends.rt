@@ -8,14 +8,12 @@ use memchr::memchr;
 use std::alloc::AllocError;
 use std::simd::prelude::*;
 
-// Whether the byte ends a field without quotes.
 fn is_mark(c: u8) -> bool
     ensures { result ≡ Rattle.csv_rows.specs.Places.is_mark c }
 {
     (c == b',') | ((c == b'\n') | (c == b'\r'))
 }
 
-// The marks among 16 bytes.
 #[inline(always)]
 fn marks(v: u8x16) -> u64
     ensures { result ≡ mask_l (map Rattle.csv_rows.specs.Places.is_mark v) }
@@ -95,7 +93,6 @@ fn quoted_end(bytes: &[u8], at: usize, field: &mut Vec<u8>) -> Result<usize, All
     }
 }
 
-/// Whether this byte stands at the place.
 #[inline(always)]
 pub(crate) fn byte_at(bytes: &[u8], at: usize, byte: u8) -> bool
     requires { at ≤ length bytes.now }
@@ -124,7 +121,6 @@ pub(crate) fn field_at<'a>(
     Ok((field.as_slice(), end))
 }
 
-// Whether the byte ends a line.
 fn is_line_end(c: u8) -> bool
     ensures { result ≡ Rattle.csv_rows.specs.Places.is_line_end c }
 {

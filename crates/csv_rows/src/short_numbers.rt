@@ -36,7 +36,6 @@ pub(crate) fn spelled_uint(field: &[u8]) -> Option<u64>
     if good { Some(number) } else { None }
 }
 
-/// The Int64 that the field spells.
 #[inline(always)]
 pub(crate) fn spelled_int(field: &[u8]) -> Option<i64>
     ensures { result ≡ int_spelled field.now }

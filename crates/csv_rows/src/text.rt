@@ -1,5 +1,4 @@
-ghost use Rattle.std.specs.Prelude.{◌≡◌, ℕ, ◌<◌, ◌++◌, [], length, map, flat_map, IfOk, OnOk};
-ghost use Rattle.std.specs.Option.{option_copied};
+ghost use Rattle.std.specs.Prelude.{◌≡◌, ℕ, ◌<◌, ◌++◌, [], length, map, flat_map, IfOk, OnOk, option_copied};
 ghost use Rattle.chunk_data.specs.Names.{value_at, Table, row_at, values};
 ghost use Rattle.query_model.specs.Texts.{doubled, quoted, row_text as text_of_row, rows_text, separator, value_text};
 ghost use Rattle.csv_rows.specs.Lines.{heading};

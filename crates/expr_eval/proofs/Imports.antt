@@ -1,19 +1,19 @@
 -- The names from outside that this crate's proofs use, in one place.
-pub use Rattle.chunk_data.proofs.Imports.{Equal, Greater, Less, Ordering, get_or_default, column_type, values}
+pub use Rattle.chunk_data.proofs.Imports.{get_or_default, column_type, values}
 pub use Rattle.chunk_data.proofs.Laws.{AreLong_of_made, rows_of_made}
 pub use Rattle.chunk_data.specs.declared.typed_column.Column.{Column}
 pub use Rattle.expr_eval.specs.Results.{IsColumnMade, flipped, residue, swap_if}
 pub use Rattle.query_model.proofs.Imports.{ColumnType, Int, IsItem, Row, Table, Text, UInt, Value, int_cmp_total, map-append, ordering_reverse, take_all, to_z-of_z, value_at}
 pub use Rattle.query_model.proofs.TypedQueries.{type_before, type_behind, type_of_number}
-pub use Rattle.query_model.specs.Names.{AreAlike, AreNumbersAlike, CanHold, Expr, arith_type, arith_value, compared, exact, exact_result, is_text, number_of, number_type, passes, plain_of, plain_value, result_type}
+pub use Rattle.query_model.specs.Names.{AreAlike, CanHold, Expr, arith_type, arith_value, compared, exact_result, is_text, number_of, number_type, passes, plain_of, plain_value, result_type}
 pub use Rattle.query_model.specs.Prelude.{int_cmp, text_cmp}
 pub use Rattle.query_model.specs.declared.query.ArithOp.{ArithOp}
-pub use Rattle.query_model.specs.declared.query.ArithOp.TheVariants.{Add, Mul, Sub}
+pub use Rattle.query_model.specs.declared.query.ArithOp.TheVariants.{Sub}
 pub use Rattle.query_model.specs.declared.query.CompareOp.{CompareOp}
-pub use Rattle.query_model.specs.declared.query.CompareOp.TheVariants.{Eq, Ge, Gt, Le, Lt, Ne}
-pub use Rattle.std.proofs.Common.{Bool, List, None, Option, SFits, Some, [], add-one, ap, arith, false, get_or, if◌then◌else◌, length, map, negsuc, not, of_z, pos, refl, replicate, rules, set, subst, suc, sym, take, to_z, true, zero, ℕ, ℤ, ◌&&◌, ◌++◌, ◌+◌, ◌-ℤ◌, ◌<◌, ◌||◌, ◌∙◌, ◌∷◌, ◌≡◌, ◌≤◌}
+pub use Rattle.std.proofs.Common.{Bool, List, None, Option, Some, [], add-one, ap, arith, false, get_or, if◌then◌else◌, length, map, not, pos, refl, replicate, rules, set, subst, suc, sym, take, true, zero, ℕ, ℤ, ◌&&◌, ◌++◌, ◌+◌, ◌-ℤ◌, ◌<◌, ◌||◌, ◌∙◌, ◌∷◌, ◌≡◌, ◌≤◌}
 pub use Rattle.std.proofs.lemmas.Cmp.{nat_list_cmp_total}
 pub use Rattle.std.proofs.lemmas.List.Elements.{All-more}
 pub use Rattle.std.specs.Int.{int_wrap, w64}
 pub use Rattle.std.specs.List.{All, zip}
 unfoldable pub use Rattle.query_model.specs.Names.{operand_value, truth_of, type_of, value_of, wrapped}
+pub use Rattle.std.proofs.lemmas.Result.{IfOk-weaker}

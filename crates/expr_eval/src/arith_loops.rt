@@ -1,7 +1,6 @@
 // One loop for each operator and shape of its operands. Each stands by itself, since a closure is
 // compiled once: with the operator taken from outside it would be told apart at every row.
-ghost use Rattle.std.specs.Prelude.{◌≡◌, ◌-ℤ◌, pos, length, map, IfOk};
-ghost use Rattle.std.specs.List.{zip};
+ghost use Rattle.std.specs.Prelude.{◌≡◌, ◌-ℤ◌, pos, length, map, IfOk, zip};
 ghost use Rattle.std.specs.Int.{int_wrap, w64};
 ghost use Rattle.query_model.specs.Expressions.{exact_result};
 ghost use Rattle.expr_eval.specs.Results.{residue, swap_if};
@@ -44,7 +43,6 @@ macro_rules! each_beside {
     }};
 }
 
-/// The result of Int64, modulo 2^64.
 #[inline(always)]
 #[tactic(auto, unfolding(query_model::specs::Numbers::wrapped))]
 pub(crate) fn int_result(op: ArithOp, x: i64, y: i64) -> i64
@@ -57,7 +55,6 @@ pub(crate) fn int_result(op: ArithOp, x: i64, y: i64) -> i64
     }
 }
 
-/// The result of UInt64, modulo 2^64.
 #[inline(always)]
 #[tactic(auto, unfolding(query_model::specs::Numbers::wrapped))]
 pub(crate) fn uint_result(op: ArithOp, x: u64, y: u64) -> u64
@@ -70,7 +67,6 @@ pub(crate) fn uint_result(op: ArithOp, x: u64, y: u64) -> u64
     }
 }
 
-/// The difference of UInt64 as an Int64, modulo 2^64.
 #[inline(always)]
 #[tactic(auto, unfolding(query_model::specs::Numbers::wrapped))]
 pub(crate) fn uint_difference(x: u64, y: u64) -> i64
@@ -79,7 +75,6 @@ pub(crate) fn uint_difference(x: u64, y: u64) -> i64
     sub_uint(x, y)
 }
 
-/// The differences of UInt64, which are Int64.
 pub(crate) fn uint_differences(alloc: Global, xs: &[u64], ys: &[u64]) -> Result<Vec<i64>, Memory>
     ensures { IfOk result
         (λ v. v.items ≡ map (λ p. int_wrap w64 (pos p.0 -ℤ pos p.1)) (zip xs.now ys.now)) }
@@ -109,7 +104,6 @@ pub(crate) fn uint_differences_beside(
     }
 }
 
-/// The results at each pair.
 pub(crate) fn int_results(
     alloc: Global,
     op: ArithOp,
@@ -122,7 +116,6 @@ pub(crate) fn int_results(
     each_pair!(alloc, op, xs, ys, int_result)
 }
 
-/// The results at each pair.
 pub(crate) fn uint_results(
     alloc: Global,
     op: ArithOp,
@@ -180,17 +173,9 @@ pub(crate) fn int_results_onto(op: ArithOp, mut xs: Vec<i64>, ys: &[i64]) -> Vec
         ≡ map (λ p. int_wrap w64 (exact_result op p.0 p.1)) (zip xs.items ys.now) }
 {
     match op {
-        ArithOp::Add => {
-            each_int_pair_onto(ArithOp::Add, &mut xs, ys);
-            xs
-        }
-        ArithOp::Sub => {
-            each_int_pair_onto(ArithOp::Sub, &mut xs, ys);
-            xs
-        }
-        ArithOp::Mul => {
-            each_int_pair_onto(ArithOp::Mul, &mut xs, ys);
-            xs
-        }
+        ArithOp::Add => each_int_pair_onto(ArithOp::Add, &mut xs, ys),
+        ArithOp::Sub => each_int_pair_onto(ArithOp::Sub, &mut xs, ys),
+        ArithOp::Mul => each_int_pair_onto(ArithOp::Mul, &mut xs, ys),
     }
+    xs
 }

@@ -1,7 +1,6 @@
 // One loop for each comparison and shape of its operands. Each stands by itself, since a closure is
 // compiled once: with the comparison taken from outside it would be told apart at every row.
-ghost use Rattle.std.specs.Prelude.{◌≡◌, pos, length, map, replicate, IfOk, not, ◌&&◌, ◌||◌};
-ghost use Rattle.std.specs.List.{zip};
+ghost use Rattle.std.specs.Prelude.{◌≡◌, pos, length, map, replicate, IfOk, not, ◌&&◌, ◌||◌, zip};
 ghost use Rattle.std.specs.Ordering.{int_cmp};
 ghost use Rattle.chunk_data.specs.Values.{text_cmp};
 ghost use Rattle.query_model.specs.Expressions.{number_of, passes};
@@ -71,7 +70,6 @@ pub(crate) fn order_passes(op: CompareOp, order: Ordering) -> bool
     }
 }
 
-/// Whether the comparison is true of two Int64.
 #[inline(always)]
 pub(crate) fn int_passes(op: CompareOp, x: i64, y: i64) -> bool
     ensures { result ≡ passes op (int_cmp x y) }
@@ -86,7 +84,6 @@ pub(crate) fn int_passes(op: CompareOp, x: i64, y: i64) -> bool
     }
 }
 
-/// Whether the comparison is true of two UInt64.
 #[inline(always)]
 pub(crate) fn uint_passes(op: CompareOp, x: u64, y: u64) -> bool
     ensures { result ≡ passes op (int_cmp (pos x) (pos y)) }
@@ -113,7 +110,6 @@ pub(crate) fn int_uint_passes(op: CompareOp, x: i64, y: u64) -> bool
     }
 }
 
-/// A plain number, exactly.
 pub(crate) fn number_as_wide(n: Number) -> i128
     ensures { result ≡ number_of n }
 {
@@ -124,7 +120,6 @@ pub(crate) fn number_as_wide(n: Number) -> i128
     }
 }
 
-/// Whether the comparison is true of an Int64 and any plain number.
 #[inline(always)]
 fn int_far_passes(op: CompareOp, x: i64, n: Number) -> bool
     ensures { result ≡ passes op (int_cmp x (number_of n)) }
@@ -132,7 +127,6 @@ fn int_far_passes(op: CompareOp, x: i64, n: Number) -> bool
     order_passes(op, (x as i128).cmp(&number_as_wide(n)))
 }
 
-/// Whether the comparison is true of a UInt64 and any plain number.
 #[inline(always)]
 fn uint_far_passes(op: CompareOp, x: u64, n: Number) -> bool
     ensures { result ≡ passes op (int_cmp (pos x) (number_of n)) }
@@ -140,7 +134,6 @@ fn uint_far_passes(op: CompareOp, x: u64, n: Number) -> bool
     order_passes(op, (x as i128).cmp(&number_as_wide(n)))
 }
 
-/// Whether the comparison is true of two plain numbers.
 pub(crate) fn numbers_pass(op: CompareOp, n: Number, m: Number) -> bool
     ensures { result ≡ passes op (int_cmp (number_of n) (number_of m)) }
 {
@@ -183,7 +176,6 @@ pub(crate) fn uint_far_mask(
     )
 }
 
-/// The comparison at each pair of Int64.
 pub(crate) fn int_mask(
     alloc: Global,
     op: CompareOp,
@@ -196,7 +188,6 @@ pub(crate) fn int_mask(
     each_pair!(alloc, op, xs, ys, int_passes)
 }
 
-/// The comparison at each pair of UInt64.
 pub(crate) fn uint_mask(
     alloc: Global,
     op: CompareOp,
@@ -209,7 +200,6 @@ pub(crate) fn uint_mask(
     each_pair!(alloc, op, xs, ys, uint_passes)
 }
 
-/// The comparison at each pair of an Int64 and a UInt64.
 pub(crate) fn int_uint_mask(
     alloc: Global,
     op: CompareOp,
@@ -222,7 +212,6 @@ pub(crate) fn int_uint_mask(
     each_pair!(alloc, op, xs, ys, int_uint_passes)
 }
 
-/// The comparison at each Int64 and one more.
 pub(crate) fn int_mask_beside(
     alloc: Global,
     op: CompareOp,
@@ -234,7 +223,6 @@ pub(crate) fn int_mask_beside(
     each_beside!(alloc, op, xs, y, int_passes)
 }
 
-/// The comparison at each UInt64 and one more.
 pub(crate) fn uint_mask_beside(
     alloc: Global,
     op: CompareOp,
@@ -246,7 +234,6 @@ pub(crate) fn uint_mask_beside(
     each_beside!(alloc, op, xs, y, uint_passes)
 }
 
-/// The comparison at each text and one more.
 pub(crate) fn text_mask_beside(
     alloc: Global,
     op: CompareOp,
@@ -263,7 +250,6 @@ pub(crate) fn text_mask_beside(
     Ok(mask)
 }
 
-/// The comparison at each pair of texts.
 pub(crate) fn text_mask(
     alloc: Global,
     op: CompareOp,
@@ -282,7 +268,6 @@ pub(crate) fn text_mask(
     Ok(mask)
 }
 
-// Each place true where both are.
 fn both_onto(mask: &mut [bool], other: &[bool])
     requires { length other.now ≡ length mask.old }
     ensures { mask.new ≡ map (λ p. p.0 && p.1) (zip mask.old other.now) }
@@ -292,7 +277,6 @@ fn both_onto(mask: &mut [bool], other: &[bool])
     }
 }
 
-// Each place true where either is.
 fn either_onto(mask: &mut [bool], other: &[bool])
     requires { length other.now ≡ length mask.old }
     ensures { mask.new ≡ map (λ p. p.0 || p.1) (zip mask.old other.now) }
@@ -302,7 +286,6 @@ fn either_onto(mask: &mut [bool], other: &[bool])
     }
 }
 
-// Each place true where it was not.
 fn negate_onto(mask: &mut [bool])
     ensures { mask.new ≡ map (λ m. not m) mask.old }
 {
@@ -337,7 +320,6 @@ pub(crate) fn negated(mut mask: Vec<bool>) -> Vec<bool>
     mask
 }
 
-/// A mask with the same at each of n places.
 pub(crate) fn filled(alloc: Global, truth: bool, n: usize) -> Result<Vec<bool>, Memory>
     ensures { IfOk result (λ m. m.items ≡ replicate n truth) }
 {

@@ -1,5 +1,4 @@
-ghost use Rattle.std.specs.Prelude.{◌≡◌, pos, length, map, IfOk, IfSome, None, false, true};
-ghost use Rattle.std.specs.List.{zip};
+ghost use Rattle.std.specs.Prelude.{◌≡◌, pos, length, map, IfOk, IfSome, None, false, true, zip};
 ghost use Rattle.std.specs.Ordering.{int_cmp};
 ghost use Rattle.chunk_data.specs.Columns.{column_type, values};
 ghost use Rattle.query_model.specs.Names.{value_of, type_of, operand_value, holds, number_of, plain_value, passes, compared, IsTyped, IsTypedOperand, IsTypedCond, operand_type, is_text, plain_of};
@@ -15,7 +14,6 @@ use query_model::checked::{Cond, Expr};
 use query_model::query::{CompareOp, CondOf, ExprOf, Number, Operand};
 use std::alloc::Global;
 
-/// A plain number as an Int64, if it is one.
 fn number_in_int(n: Number) -> Option<i64>
     ensures { IfSome result (λ k. k ≡ number_of n) }
 {
@@ -27,7 +25,6 @@ fn number_in_int(n: Number) -> Option<i64>
     }
 }
 
-/// A plain number as a UInt64, if it is one.
 fn number_in_uint(n: Number) -> Option<u64>
     ensures { IfSome result (λ k. pos k ≡ number_of n) }
 {
@@ -38,7 +35,6 @@ fn number_in_uint(n: Number) -> Option<u64>
     }
 }
 
-// The comparison at each Int64 and a plain number.
 fn ints_beside(alloc: Global, op: CompareOp, xs: &[i64], n: Number) -> Result<Vec<bool>, Memory>
     ensures { IfOk result (λ m. m.items ≡ map (λ x. passes op (int_cmp x (number_of n))) xs.now) }
 {
@@ -48,7 +44,6 @@ fn ints_beside(alloc: Global, op: CompareOp, xs: &[i64], n: Number) -> Result<Ve
     }
 }
 
-// The comparison at each UInt64 and a plain number.
 fn uints_beside(alloc: Global, op: CompareOp, xs: &[u64], n: Number) -> Result<Vec<bool>, Memory>
     ensures { IfOk result
         (λ m. m.items ≡ map (λ x. passes op (int_cmp (pos x) (number_of n))) xs.now) }
@@ -59,7 +54,6 @@ fn uints_beside(alloc: Global, op: CompareOp, xs: &[u64], n: Number) -> Result<V
     }
 }
 
-// The comparison at each value of a column of numbers and a plain number.
 fn column_beside(
     alloc: Global,
     op: CompareOp,
@@ -71,19 +65,12 @@ fn column_beside(
         ≡ map (λ v. passes op (compared v (plain_value (number_of n)))) (values column.now)) }
 {
     match column.kind().plain() {
-        PlainType::Int64 => {
-            let mask = ints_beside(alloc, op, column.ints(), n)?;
-            Ok(mask)
-        }
-        PlainType::UInt64 => {
-            let mask = uints_beside(alloc, op, column.uints(), n)?;
-            Ok(mask)
-        }
+        PlainType::Int64 => ints_beside(alloc, op, column.ints(), n),
+        PlainType::UInt64 => uints_beside(alloc, op, column.uints(), n),
         PlainType::Text => unreachable!(),
     }
 }
 
-// The comparison at each Int64 and the value of a column of numbers beside it.
 fn ints_and_column(
     alloc: Global,
     op: CompareOp,
@@ -95,19 +82,12 @@ fn ints_and_column(
         ≡ map (λ p. passes op (compared p.0 p.1)) (zip (map Value.Int xs.now) (values right.now))) }
 {
     match right.kind().plain() {
-        PlainType::Int64 => {
-            let mask = int_mask(alloc, op, xs, right.ints())?;
-            Ok(mask)
-        }
-        PlainType::UInt64 => {
-            let mask = int_uint_mask(alloc, op, xs, right.uints())?;
-            Ok(mask)
-        }
+        PlainType::Int64 => int_mask(alloc, op, xs, right.ints()),
+        PlainType::UInt64 => int_uint_mask(alloc, op, xs, right.uints()),
         PlainType::Text => unreachable!(),
     }
 }
 
-// The comparison at each UInt64 and the value of a column of numbers beside it.
 fn uints_and_column(
     alloc: Global,
     op: CompareOp,
@@ -119,19 +99,12 @@ fn uints_and_column(
         (zip (map Value.UInt xs.now) (values right.now))) }
 {
     match right.kind().plain() {
-        PlainType::Int64 => {
-            let mask = int_uint_mask(alloc, flip(op), right.ints(), xs)?;
-            Ok(mask)
-        }
-        PlainType::UInt64 => {
-            let mask = uint_mask(alloc, op, xs, right.uints())?;
-            Ok(mask)
-        }
+        PlainType::Int64 => int_uint_mask(alloc, flip(op), right.ints(), xs),
+        PlainType::UInt64 => uint_mask(alloc, op, xs, right.uints()),
         PlainType::Text => unreachable!(),
     }
 }
 
-// The comparison at each pair of values of two columns, both of numbers or both of texts.
 fn columns(alloc: Global, op: CompareOp, left: &Column, right: &Column) -> Result<Vec<bool>, Memory>
     requires alike { is_text (column_type left.now) ≡ is_text (column_type right.now) }
     requires long { length (values right.now) ≡ length (values left.now) }
@@ -139,22 +112,12 @@ fn columns(alloc: Global, op: CompareOp, left: &Column, right: &Column) -> Resul
         ≡ map (λ p. passes op (compared p.0 p.1)) (zip (values left.now) (values right.now))) }
 {
     match left.kind().plain() {
-        PlainType::Int64 => {
-            let mask = ints_and_column(alloc, op, left.ints(), right)?;
-            Ok(mask)
-        }
-        PlainType::UInt64 => {
-            let mask = uints_and_column(alloc, op, left.uints(), right)?;
-            Ok(mask)
-        }
-        PlainType::Text => {
-            let mask = text_mask(alloc, op, left.texts(), right.texts())?;
-            Ok(mask)
-        }
+        PlainType::Int64 => ints_and_column(alloc, op, left.ints(), right),
+        PlainType::UInt64 => uints_and_column(alloc, op, left.uints(), right),
+        PlainType::Text => text_mask(alloc, op, left.texts(), right.texts()),
     }
 }
 
-// The comparison of an expression and a plain number at each row.
 fn number_compared(
     alloc: Global,
     op: CompareOp,
@@ -169,8 +132,7 @@ fn number_compared(
         (compared (value_of expr.now row) (plain_value (number_of n)))) chunk.now.rows) }
 {
     let column = arith_column(alloc, expr, chunk)?;
-    let mask = column_beside(alloc, op, column_at(expr, &column, chunk), n)?;
-    Ok(mask)
+    column_beside(alloc, op, column_at(expr, &column, chunk), n)
 }
 
 // The comparison of two expressions, neither of which is a plain number, at each row.
@@ -194,11 +156,9 @@ fn expressions_compared(
     let right_made = arith_column(alloc, right, chunk)?;
     let here = column_at(left, &left_made, chunk);
     let there = column_at(right, &right_made, chunk);
-    let mask = columns(alloc, op, here, there)?;
-    Ok(mask)
+    columns(alloc, op, here, there)
 }
 
-// The comparison of a plain number and an expression at each row.
 fn plain_compared(
     alloc: Global,
     op: CompareOp,
@@ -212,18 +172,11 @@ fn plain_compared(
         (compared (plain_value (number_of n)) (value_of right.now row))) chunk.now.rows) }
 {
     match plain_number(right) {
-        Some(k) => {
-            let mask = filled(alloc, numbers_pass(op, n, k), chunk.rows())?;
-            Ok(mask)
-        }
-        None => {
-            let mask = number_compared(alloc, flip(op), right, n, chunk)?;
-            Ok(mask)
-        }
+        Some(k) => filled(alloc, numbers_pass(op, n, k), chunk.rows()),
+        None => number_compared(alloc, flip(op), right, n, chunk),
     }
 }
 
-// The comparison of two expressions at each row.
 fn plain_operands(
     alloc: Global,
     op: CompareOp,
@@ -239,24 +192,14 @@ fn plain_operands(
         (compared (value_of left.now row) (value_of right.now row))) chunk.now.rows) }
 {
     match plain_number(left) {
-        Some(n) => {
-            let mask = plain_compared(alloc, op, n, right, chunk)?;
-            Ok(mask)
-        }
+        Some(n) => plain_compared(alloc, op, n, right, chunk),
         None => match plain_number(right) {
-            Some(k) => {
-                let mask = number_compared(alloc, op, left, k, chunk)?;
-                Ok(mask)
-            }
-            None => {
-                let mask = expressions_compared(alloc, op, left, right, chunk)?;
-                Ok(mask)
-            }
+            Some(k) => number_compared(alloc, op, left, k, chunk),
+            None => expressions_compared(alloc, op, left, right, chunk),
         },
     }
 }
 
-// The comparison of a Text column and a text at each row.
 fn text_compared(
     alloc: Global,
     op: CompareOp,
@@ -272,15 +215,13 @@ fn text_compared(
     match expr {
         ExprOf::Column(c) => {
             let column = chunk.column(*c as usize);
-            let mask = text_mask_beside(alloc, op, column.texts(), text.as_slice())?;
-            Ok(mask)
+            text_mask_beside(alloc, op, column.texts(), text.as_slice())
         }
         ExprOf::Number(_) => unreachable!(),
         ExprOf::Arith(_, _, _) => unreachable!(),
     }
 }
 
-// The comparison of an operand and a text at each row.
 fn beside_text(
     alloc: Global,
     op: CompareOp,
@@ -294,23 +235,16 @@ fn beside_text(
         (compared (operand_value left.now row) (Value.Text text.now))) chunk.now.rows) }
 {
     match left {
-        Operand::Plain(expr) => {
-            let mask = text_compared(alloc, op, expr, text, chunk)?;
-            Ok(mask)
-        }
-        Operand::Text(bytes) => {
-            let mask = filled(
-                alloc,
-                text_passes(op, bytes.as_slice(), text.as_slice()),
-                chunk.rows(),
-            )?;
-            Ok(mask)
-        }
+        Operand::Plain(expr) => text_compared(alloc, op, expr, text, chunk),
+        Operand::Text(bytes) => filled(
+            alloc,
+            text_passes(op, bytes.as_slice(), text.as_slice()),
+            chunk.rows(),
+        ),
         Operand::Agg(_) => unreachable!(),
     }
 }
 
-// The comparison of an operand and an expression at each row.
 fn beside_expression(
     alloc: Global,
     op: CompareOp,
@@ -326,19 +260,12 @@ fn beside_expression(
         (compared (operand_value left.now row) (value_of right.now row))) chunk.now.rows) }
 {
     match left {
-        Operand::Plain(expr) => {
-            let mask = plain_operands(alloc, op, expr, right, chunk)?;
-            Ok(mask)
-        }
-        Operand::Text(text) => {
-            let mask = text_compared(alloc, flip(op), right, text, chunk)?;
-            Ok(mask)
-        }
+        Operand::Plain(expr) => plain_operands(alloc, op, expr, right, chunk),
+        Operand::Text(text) => text_compared(alloc, flip(op), right, text, chunk),
         Operand::Agg(_) => unreachable!(),
     }
 }
 
-// The comparison of two operands at each row.
 fn compare(
     alloc: Global,
     op: CompareOp,
@@ -354,14 +281,8 @@ fn compare(
         (compared (operand_value left.now row) (operand_value right.now row))) chunk.now.rows) }
 {
     match right {
-        Operand::Plain(expr) => {
-            let mask = beside_expression(alloc, op, left, expr, chunk)?;
-            Ok(mask)
-        }
-        Operand::Text(text) => {
-            let mask = beside_text(alloc, op, left, text, chunk)?;
-            Ok(mask)
-        }
+        Operand::Plain(expr) => beside_expression(alloc, op, left, expr, chunk),
+        Operand::Text(text) => beside_text(alloc, op, left, text, chunk),
         Operand::Agg(_) => unreachable!(),
     }
 }
@@ -373,10 +294,7 @@ pub fn mask(alloc: Global, cond: &Cond, chunk: &Chunk) -> Result<Vec<bool>, Memo
     ensures { IfOk result (λ m. m.items ≡ map (holds cond.now) chunk.now.rows) }
 {
     match cond {
-        CondOf::Compare(op, left, right) => {
-            let truths = compare(alloc, *op, left, right, chunk)?;
-            Ok(truths)
-        }
+        CondOf::Compare(op, left, right) => compare(alloc, *op, left, right, chunk),
         CondOf::And(left, right) => {
             let truths = mask(alloc, left, chunk)?;
             let others = mask(alloc, right, chunk)?;

@@ -1,6 +1,4 @@
-ghost use Rattle.std.specs.Prelude.{◌≡◌, pos, length, map, IfOk, None, Some};
-ghost use Rattle.std.specs.Option.{option_map};
-ghost use Rattle.std.specs.List.{zip};
+ghost use Rattle.std.specs.Prelude.{◌≡◌, pos, length, map, IfOk, None, Some, option_map, zip};
 ghost use Rattle.chunk_data.specs.Columns.{column_type, values};
 ghost use Rattle.query_model.specs.Names.{value_of, type_of, number_of, plain_value, arith_type, arith_value, result_type, IsItem, IsTyped, plain_of, CanHold, AreNumbersAlike, AreAlike};
 ghost use Rattle.expr_eval.specs.Results.{IsColumnMade, StandsInColumn, swap_if};
@@ -14,7 +12,6 @@ use query_model::checked::Expr;
 use query_model::query::{ArithOp, ExprOf, Number};
 use std::alloc::Global;
 
-/// A plain number as an Int64.
 pub(crate) fn number_as_int(n: Number) -> i64
     requires { CanHold ColumnType.Int64 (number_of n) }
     ensures { result ≡ number_of n }
@@ -26,7 +23,6 @@ pub(crate) fn number_as_int(n: Number) -> i64
     }
 }
 
-/// A plain number as a UInt64.
 pub(crate) fn number_as_uint(n: Number) -> u64
     requires { CanHold ColumnType.UInt64 (number_of n) }
     ensures { pos result ≡ number_of n }
@@ -34,18 +30,15 @@ pub(crate) fn number_as_uint(n: Number) -> u64
     n.size
 }
 
-/// The expression's plain number, if it is one.
 pub(crate) fn plain_number(expr: &Expr) -> Option<Number>
     ensures { plain_of expr.now ≡ option_map number_of result }
 {
     match expr {
         ExprOf::Number(n) => Some(*n),
-        ExprOf::Column(_) => None,
-        ExprOf::Arith(_, _, _) => None,
+        ExprOf::Column(_) | ExprOf::Arith(_, _, _) => None,
     }
 }
 
-// The operator at each Int64 and one number.
 fn int_beside(
     alloc: Global,
     swapped: bool,
@@ -63,7 +56,6 @@ fn int_beside(
     }
 }
 
-// The operator at each UInt64 and one number.
 fn uint_beside(
     alloc: Global,
     swapped: bool,
@@ -107,7 +99,6 @@ fn beside(
     }
 }
 
-// The operator at each pair of Int64.
 fn int_pairs(alloc: Global, op: ArithOp, xs: &[i64], ys: &[i64]) -> Result<Column, Memory>
     ensures kind { IfOk result (λ c. column_type c ≡ ColumnType.Int64) }
     ensures values { IfOk result (λ c. values c
@@ -119,7 +110,6 @@ fn int_pairs(alloc: Global, op: ArithOp, xs: &[i64], ys: &[i64]) -> Result<Colum
     }
 }
 
-// The operator at each pair of UInt64.
 fn uint_pairs(alloc: Global, op: ArithOp, xs: &[u64], ys: &[u64]) -> Result<Column, Memory>
     ensures kind { IfOk result (λ c. column_type c ≡ result_type op ColumnType.UInt64) }
     ensures values { IfOk result (λ c. values c
@@ -137,7 +127,6 @@ fn uint_pairs(alloc: Global, op: ArithOp, xs: &[u64], ys: &[u64]) -> Result<Colu
     }
 }
 
-// The operator at each pair of values.
 fn pairs(alloc: Global, op: ArithOp, left: &Column, right: &Column) -> Result<Column, Memory>
     requires { AreNumbersAlike (column_type left.now) (column_type right.now) }
     ensures kind { IfOk result (λ c. column_type c ≡ result_type op (column_type left.now)) }
@@ -164,10 +153,7 @@ fn pairs_onto(alloc: Global, op: ArithOp, left: Column, right: &Column) -> Resul
             let results = int_results_onto(op, left.into_ints(), right.ints());
             Ok(Column::of_ints(results))
         }
-        ColumnType::UInt64 | ColumnType::Text => {
-            let made = pairs(alloc, op, &left, right)?;
-            Ok(made)
-        }
+        ColumnType::UInt64 | ColumnType::Text => pairs(alloc, op, &left, right),
     }
 }
 
@@ -204,8 +190,7 @@ fn number_beside(
     ensures values { IfOk result (λ c. values c ≡ map (λ row. swap_if swapped (arith_value op)
         (value_of expr.now row) (plain_value (number_of n))) chunk.now.rows) }
 {
-    let column = beside(alloc, swapped, op, column_at(expr, &made, chunk), n)?;
-    Ok(column)
+    beside(alloc, swapped, op, column_at(expr, &made, chunk), n)
 }
 
 // The operator at the values of two expressions, neither of which is a plain number.
@@ -229,19 +214,14 @@ fn expressions(
 {
     let there = column_at(right, &right_made, chunk);
     match left_made {
-        Some(column) => {
-            let changed = pairs_onto(alloc, op, column, there)?;
-            Ok(changed)
-        }
+        Some(column) => pairs_onto(alloc, op, column, there),
         None => {
             let none = None;
-            let column = pairs(alloc, op, column_at(left, &none, chunk), there)?;
-            Ok(column)
+            pairs(alloc, op, column_at(left, &none, chunk), there)
         }
     }
 }
 
-// The operator at the values of two expressions.
 fn arith(
     alloc: Global,
     op: ArithOp,
@@ -263,19 +243,10 @@ fn arith(
         (λ row. arith_value op (value_of left.now row) (value_of right.now row)) chunk.now.rows) }
 {
     match plain_number(left) {
-        Some(n) => {
-            let column = number_beside(alloc, true, op, n, right, right_made, chunk)?;
-            Ok(column)
-        }
+        Some(n) => number_beside(alloc, true, op, n, right, right_made, chunk),
         None => match plain_number(right) {
-            Some(m) => {
-                let column = number_beside(alloc, false, op, m, left, left_made, chunk)?;
-                Ok(column)
-            }
-            None => {
-                let column = expressions(alloc, op, left, left_made, right, right_made, chunk)?;
-                Ok(column)
-            }
+            Some(m) => number_beside(alloc, false, op, m, left, left_made, chunk),
+            None => expressions(alloc, op, left, left_made, right, right_made, chunk),
         },
     }
 }
@@ -291,8 +262,7 @@ pub(crate) fn arith_column(
     ensures { IfOk result (λ m. IsColumnMade expr.now chunk.now m) }
 {
     match expr {
-        ExprOf::Column(_) => Ok(None),
-        ExprOf::Number(_) => Ok(None),
+        ExprOf::Column(_) | ExprOf::Number(_) => Ok(None),
         ExprOf::Arith(op, left, right) => {
             let left_made = arith_column(alloc, left, chunk)?;
             let right_made = arith_column(alloc, right, chunk)?;
@@ -310,10 +280,7 @@ pub fn eval(alloc: Global, expr: &Expr, chunk: &Chunk) -> Result<Column, Memory>
     ensures values { IfOk result (λ c. values c ≡ map (value_of expr.now) chunk.now.rows) }
 {
     match expr {
-        ExprOf::Column(c) => {
-            let column = chunk.column(*c as usize).copy()?;
-            Ok(column)
-        }
+        ExprOf::Column(c) => chunk.column(*c as usize).copy(),
         ExprOf::Number(_) => unreachable!(),
         ExprOf::Arith(_, _, _) => match arith_column(alloc, expr, chunk)? {
             Some(column) => Ok(column),

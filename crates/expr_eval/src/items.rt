@@ -1,5 +1,4 @@
-ghost use Rattle.std.specs.Prelude.{◌≡◌, ◌↔◌, map, IfOk, IsTrue};
-ghost use Rattle.std.specs.List.{All};
+ghost use Rattle.std.specs.Prelude.{◌≡◌, ◌↔◌, map, IfOk, IsTrue, All};
 ghost use Rattle.query_model.specs.Names.{item_row, type_of, IsItem};
 
 use crate::expression::{eval, plain_number};
@@ -8,14 +7,10 @@ use chunk_data::{Chunk, ColumnType, List, Memory};
 use query_model::checked::Expr;
 use std::alloc::Global;
 
-// Whether the expression may be an item of SELECT.
 fn is_item(expr: &Expr, types: &[ColumnType]) -> bool
     ensures { IsTrue result ↔ IsItem types.now expr.now }
 {
-    if !is_typed(expr, types) {
-        return false;
-    }
-    plain_number(expr).is_none()
+    is_typed(expr, types) && plain_number(expr).is_none()
 }
 
 /// Whether each expression may be an item of SELECT: typed by the columns' types, and not a plain

@@ -1,5 +1,4 @@
-ghost use Rattle.std.specs.Prelude.{◌≡◌, ◌↔◌, IsTrue};
-ghost use Rattle.std.specs.Option.{option_map};
+ghost use Rattle.std.specs.Prelude.{◌≡◌, ◌↔◌, IsTrue, option_map};
 ghost use Rattle.query_model.specs.Names.{type_of, number_of, IsTyped, IsTypedOperand, IsTypedCond, operand_type, is_text, plain_of, AreAlike, AreNumbersAlike};
 
 use crate::expression::plain_number;
@@ -8,7 +7,6 @@ use query_model::checked::{Cond, Expr};
 use query_model::plain::{can_hold, expr_type};
 use query_model::query::{CondOf, ExprOf, Number, Operand};
 
-// Whether the types are one type of numbers.
 fn numbers_alike(s: ColumnType, t: ColumnType) -> bool
     ensures { IsTrue result ↔ AreNumbersAlike s t }
 {
@@ -31,7 +29,6 @@ fn alike(p: Option<Number>, s: ColumnType, q: Option<Number>, t: ColumnType) -> 
     }
 }
 
-// Whether two expressions may stand in arithmetic.
 fn operands_alike(left: &Expr, right: &Expr, types: &[ColumnType]) -> bool
     ensures { IsTrue result ↔ AreAlike (plain_of left.now) (type_of left.now types.now)
         (plain_of right.now) (type_of right.now types.now) }
@@ -52,18 +49,11 @@ pub fn is_typed(expr: &Expr, types: &[ColumnType]) -> bool
         ExprOf::Column(c) => (*c as usize) < types.len(),
         ExprOf::Number(_) => true,
         ExprOf::Arith(_, left, right) => {
-            if !is_typed(left, types) {
-                return false;
-            }
-            if !is_typed(right, types) {
-                return false;
-            }
-            operands_alike(left, right, types)
+            is_typed(left, types) && is_typed(right, types) && operands_alike(left, right, types)
         }
     }
 }
 
-// Whether the side of a comparison is typed by the columns' types.
 fn is_typed_operand(operand: &Operand<u32>, types: &[ColumnType]) -> bool
     ensures { IsTrue result ↔ IsTypedOperand types.now operand.now }
 {
@@ -74,14 +64,12 @@ fn is_typed_operand(operand: &Operand<u32>, types: &[ColumnType]) -> bool
     }
 }
 
-// Whether a side of a comparison is a text.
 fn operand_is_text(operand: &Operand<u32>, types: &[ColumnType]) -> bool
     ensures { result ≡ is_text (operand_type operand.now types.now) }
 {
     match operand {
         Operand::Plain(expr) => expr_type(expr, types).is_text(),
-        Operand::Text(_) => true,
-        Operand::Agg(_) => true,
+        Operand::Text(_) | Operand::Agg(_) => true,
     }
 }
 
@@ -91,25 +79,12 @@ pub fn is_typed_cond(cond: &Cond, types: &[ColumnType]) -> bool
 {
     match cond {
         CondOf::Compare(_, left, right) => {
-            if !is_typed_operand(left, types) {
-                return false;
-            }
-            if !is_typed_operand(right, types) {
-                return false;
-            }
-            operand_is_text(left, types) == operand_is_text(right, types)
+            is_typed_operand(left, types)
+                && is_typed_operand(right, types)
+                && operand_is_text(left, types) == operand_is_text(right, types)
         }
-        CondOf::And(left, right) => {
-            if !is_typed_cond(left, types) {
-                return false;
-            }
-            is_typed_cond(right, types)
-        }
-        CondOf::Or(left, right) => {
-            if !is_typed_cond(left, types) {
-                return false;
-            }
-            is_typed_cond(right, types)
+        CondOf::And(left, right) | CondOf::Or(left, right) => {
+            is_typed_cond(left, types) && is_typed_cond(right, types)
         }
         CondOf::Not(inner) => is_typed_cond(inner, types),
     }

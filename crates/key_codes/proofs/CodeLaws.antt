@@ -1,7 +1,5 @@
 -- Codes in a set, by which its keys are shown, and their places.
-use Rattle.std.proofs.Common.{◌≡◌, ℕ, ◌||◌, ◌&&◌, Bool, true, false, cond, List, [], ◌∷◌, ◌++◌, length, map, Some, None, position, nat_eq, refl, ap, arith, Result, OnOk, sym, ◌∙◌, Ok, Err}
-use Rattle.std.proofs.lemmas.Grind.{common_steps}
-use Rattle.key_codes.proofs.Imports.{FindsCode, insert_key, list_any, position_or_len, prefix_len-le-length, same_code}
+use Rattle.key_codes.proofs.Imports.{◌≡◌, ℕ, ◌||◌, ◌&&◌, Bool, true, false, cond, List, [], ◌∷◌, ◌++◌, length, map, Some, None, position, nat_eq, refl, ap, arith, Result, OnOk, sym, ◌∙◌, Ok, Err, common_steps, FindsCode, insert_key, list_any, position_or_len, prefix_len-le-length, same_code}
 
 -- what is made of the elements, of which one more is new where c is false
 pub map-insert : {A B : Type 0} (f : A → B) (b c : Bool) (xs : List A) (x : A) → b ≡ c

@@ -1,12 +1,7 @@
 -- Keys that have one code are one key.
-use Rattle.std.proofs.Common.{◌≡◌, ℕ, suc, ◌<◌, ◌≤◌, ◌+◌, ◌^◌, ◌≢◌, Bool, true, false, append_assoc, List, [], ◌∷◌, ◌++◌, length, map, flat_map, replicate, take, drop, get_or, refl, sym, ap, ap₂, ◌∙◌, arith, fold, w64, inl, inr, subst, cond, ◌||◌, IfOk, OnOk, Result, Vec, ℤ, pos}
-use Rattle.chunk_data.specs.declared.typed_value.Value.TheVariants.{Int, UInt, Text}
+use Rattle.key_codes.proofs.Imports.{◌≡◌, ℕ, suc, ◌<◌, ◌≤◌, ◌+◌, ◌^◌, ◌≢◌, Bool, true, false, append_assoc, List, [], ◌∷◌, ◌++◌, length, map, flat_map, replicate, take, drop, get_or, refl, sym, ap, ap₂, ◌∙◌, arith, fold, w64, inl, inr, subst, cond, ◌||◌, IfOk, OnOk, Result, Vec, ℤ, pos, Int, UInt, Text, is_plain_text, is_text, plain_type, PlainType, common_steps, All, All-map, AllByRecursion, AreKeyValues, ColumnType, FindsCode, FindsCodes, HasKey, IsCell, IsSame, Row, Value, append-nil, at_drop_more, cases_eq, cases_lt, drop_at, first_plain_type, first_key_column, flat_map-append, from_le_bytes-to_le_bytes_8, get_or-map, get_or_default, key_at, key_code, length-map, map-map, row_code, type_at, list_any, map-append, nat_list_eq_equiv, places_from, position_or_len, same_code, same_row, same_row_is, same_text, take-suc, take_at, to_le_bytes, value_at, value_bytes, value_code, with_key, plain_types_at}
 use Rattle.chunk_data.specs.declared.typed_value.ColumnType.TheVariants as column
-use Rattle.chunk_data.specs.Values.{is_plain_text, is_text, plain_type}
-use Rattle.chunk_data.specs.declared.typed_value.PlainType.{PlainType}
 use Rattle.chunk_data.specs.declared.typed_value.PlainType.TheVariants as plain
-use Rattle.key_codes.proofs.Imports.{All, All-map, AllByRecursion, AreKeyValues, ColumnType, FindsCode, FindsCodes, HasKey, IsCell, IsSame, Row, Value, append-nil, at_drop_more, cases_eq, cases_lt, drop_all, drop_at, first_plain_type, first_key_column, flat_map-append, from_le_bytes-to_le_bytes_8, get_or-map, get_or_default, key_at, key_code, length-map, map-map, row_code, type_at, list_any, map-append, nat_list_eq_equiv, places_from, position_or_len, same_code, same_row, same_row_is, same_text, take-suc, take_at, to_le_bytes, value_at, value_bytes, value_code, with_key, from_le_bytes, plain_types_at}
-use Rattle.std.proofs.lemmas.Grind.{common_steps}
 use Rattle.key_codes.proofs.CodeLaws.{map-insert}
 
 pub same_code_is : IsSame same_code
@@ -28,23 +23,13 @@ split a b xs ys l e = (
 
 number-bytes : (m n : ℕ) (xs ys : List ℕ) → m < 2 ^ 64 → n < 2 ^ 64
     → to_le_bytes w64 m ++ xs ≡ to_le_bytes w64 n ++ ys → (m ≡ n) × (xs ≡ ys)
-number-bytes m n xs ys p q e =
-    let s = split (to_le_bytes w64 m) (to_le_bytes w64 n) xs ys refl e in (
-      sym (from_le_bytes-to_le_bytes_8 m p) ∙ ap (from_le_bytes w64) s.0
-          ∙ from_le_bytes-to_le_bytes_8 n q,
-      s.1,
-    )
+number-bytes m n xs ys p q e = search (arith, split, from_le_bytes-to_le_bytes_8)
 
 values-one : (t : PlainType) (v w : Value) (xs ys : List ℕ) → IsCell t v → IsCell t w
     → value_bytes v ++ xs ≡ value_bytes w ++ ys → AreOne v w xs ys
 values-one t (Int y) (Int z) xs ys p q e = grind (arith, number-bytes)
 values-one t (UInt m) (UInt n) xs ys p q e = grind (arith, number-bytes)
-values-one t (Text a) (Text b) xs ys p q e =
-    let s = number-bytes (length a) (length b) (a ++ xs) (b ++ ys) p.1 q.1
-    (sym (append_assoc (to_le_bytes w64 (length a)) a xs) ∙ e
-    ∙ append_assoc (to_le_bytes w64 (length b)) b ys) in
-    let r = split a b xs ys s.0 s.1 in
-    record { value = ap Text r.0; rest = r.1 }
+values-one t (Text a) (Text b) xs ys p q e = search (arith, number-bytes, append_assoc, split)
 values-one t v w xs ys p q e = grind arith
 
 bytes-one : (types : List PlainType) (a b : Row) → AreKeyValues types a → AreKeyValues types b
@@ -83,8 +68,7 @@ key-one types a b p q e =
     single [] a b p q l m e = absurd (let n = cells-long [] a p in omega (arith, n, l))
     single (t ∷ types) [] b p q l m e = absurd p
     single (t ∷ types) (v ∷ a) [] p q l m e = absurd q
-    single (t ∷ types) (v ∷ []) (w ∷ []) p q l m e =
-        ap (λ x. x ∷ []) (value-one t v w p.0 q.0 e)
+    single (t ∷ types) (v ∷ []) (w ∷ []) p q l m e = ap (λ x. x ∷ []) (value-one t v w p.0 q.0 e)
     single (t ∷ types) (v ∷ []) (w ∷ y ∷ b) p q l m e = absurd (omega (arith, m))
     single (t ∷ types) (v ∷ x ∷ a) b p q l m e = absurd (omega (arith, l))
 
@@ -96,9 +80,7 @@ both-or-none a b P f g h k = grind (arith, common_steps)
 pub codes-agree : (types : List PlainType) (a b : Row) → AreKeyValues types a → AreKeyValues types b
     → same_code (key_code a) (key_code b) ≡ same_row a b
 codes-agree types a b p q =
-    both-or-none _ _ (a ≡ b) (λ s. key-one types a b p q (same_code_is.one _ _ s))
-    (λ k. ap (same_row a) (sym k) ∙ same_row_is.itself a) (same_row_is.one a b)
-    (λ k. ap (λ c. same_code (key_code a) (key_code c)) (sym k) ∙ same_code_is.itself (key_code a))
+    search (arith, both-or-none, key-one, same_code_is, same_row_is, same_code)
 
 -- ---- codes in place of keys
 
@@ -171,13 +153,7 @@ pub bytes-next : (places : List ℕ) (k : ℕ) (row : Row) (code : List ℕ) (v 
     → k < length places → code ≡ flat_map value_bytes (key_at (take k places) row) ++ value_bytes v
     → v ≡ value_at row (get_or places k 0)
     → code ≡ flat_map value_bytes (key_at (take (k + 1) places) row)
-bytes-next places k row code v lt e is =
-    let key = key_at (take k places) row in
-    e ∙ ap (λ w. flat_map value_bytes key ++ value_bytes w) is
-    ∙ ap (λ l. flat_map value_bytes key ++ l)
-    (sym (append-nil (value_bytes (value_at row (get_or places k 0)))))
-    ∙ sym (ap (flat_map value_bytes) (key-next places k row lt)
-    ∙ flat_map-append value_bytes key (value_at row (get_or places k 0) ∷ []))
+bytes-next places k row code v lt e is = search (arith, append-nil, key-next, flat_map-append)
 
 cells-append : (types : List PlainType) (key : Row) (t : PlainType) (v : Value)
     → AreKeyValues types key → IsCell t v → AreKeyValues (types ++ t ∷ []) (key ++ v ∷ [])
@@ -231,9 +207,6 @@ module _ (adds : Bool) (codes old : List (List ℕ)) where
     pub codes_left : fold (with_key adds same_code) new (drop i codes)
         ≡ fold (with_key adds same_code) old codes
 
-  pub finds-none : FindsSome 0 old []
-  finds-none = record { places_left = refl; codes_left = refl }
-
   -- one code more
   pub finds-next : (i : ℕ) (seen new : List (List ℕ)) (ps more : List ℕ) (code : List ℕ) (p : ℕ)
       → i < length codes → code ≡ get_or codes i [] → FindsSome i seen ps
@@ -251,16 +224,6 @@ module _ (adds : Bool) (codes old : List (List ℕ)) where
         (drop (i + 1) codes)) is
         ∙ sym (at_drop_more (fold (with_key adds same_code) seen) codes i [] lt) ∙ h.codes_left;
   }
-
-  -- none is left
-  pub finds-all : (i : ℕ) (new : List (List ℕ)) (ps : List ℕ) → length codes ≤ i
-      → FindsSome i new ps → FindsCodes adds codes old new ps
-  finds-all i new ps le h =
-      let none = drop_all i codes le in record {
-        is = sym (append-nil ps)
-            ∙ sym (ap (λ l. ps ++ places_from adds same_code new l) none) ∙ h.places_left;
-        seen = sym (ap (fold (with_key adds same_code) new) none) ∙ h.codes_left;
-      }
 
 -- ---- the codes of a chunk's keys
 

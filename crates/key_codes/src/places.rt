@@ -1,5 +1,4 @@
-ghost use Rattle.std.specs.Prelude.{◌≡◌, ◌≢◌, ◌<◌, ◌++◌, ◌∷◌, ◌^◌, [], length, map, flat_map, replicate, OnOk, IfOk, false};
-ghost use Rattle.std.specs.List.{All};
+ghost use Rattle.std.specs.Prelude.{◌≡◌, ◌≢◌, ◌<◌, ◌++◌, ◌∷◌, ◌^◌, [], length, map, flat_map, replicate, OnOk, IfOk, false, All};
 ghost use Rattle.chunk_data.specs.Names.{column_type, is_text, plain_type, row_at, value_at, values};
 ghost use Rattle.chunk_data.specs.declared.typed_value.PlainType.TheVariants as plain;
 ghost use Rattle.chunk_data.specs.declared.typed_value.Value.TheVariants as value;
@@ -9,7 +8,6 @@ use chunk_data::{Chunk, Column, Memory, PlainSlice, Texts};
 use indexmap::IndexSet;
 use std::alloc::Global;
 
-// The bits of an Int64.
 fn bits_of_int(number: i64) -> u64
     ensures code { result ∷ [] ≡ value_code (value.Int number) }
     ensures cell { IsCell plain.Int64 (value.Int number) }
@@ -17,7 +15,6 @@ fn bits_of_int(number: i64) -> u64
     number.cast_unsigned()
 }
 
-// The bits of each Int64.
 fn int_bits(alloc: Global, numbers: &[i64]) -> Result<Vec<u64>, Memory>
     ensures codes { IfOk result
         (λ v. map (λ n. n ∷ []) v.items ≡ map value_code (map value.Int numbers.now)) }
@@ -30,7 +27,6 @@ fn int_bits(alloc: Global, numbers: &[i64]) -> Result<Vec<u64>, Memory>
     Ok(bits)
 }
 
-// The bits of each UInt64.
 fn uint_bits(alloc: Global, numbers: &[u64]) -> Result<Vec<u64>, Memory>
     ensures codes { IfOk result
         (λ v. map (λ n. n ∷ []) v.items ≡ map value_code (map value.UInt numbers.now)) }
@@ -43,7 +39,6 @@ fn uint_bits(alloc: Global, numbers: &[u64]) -> Result<Vec<u64>, Memory>
     Ok(bits)
 }
 
-/// The bits of each number of a column.
 pub(crate) fn bits_of(alloc: Global, column: &Column) -> Result<Vec<u64>, Memory>
     requires { is_text (column_type column.now) ≡ false }
     ensures codes { IfOk result
@@ -102,7 +97,6 @@ fn place_of_number(seen: &mut IndexSet<u64>, adds: bool, number: u64) -> Result<
     }
 }
 
-/// The places of numbers.
 pub(crate) fn number_places(
     seen: &mut IndexSet<u64>,
     alloc: Global,
@@ -141,7 +135,6 @@ fn place_of(
     }
 }
 
-/// The places of texts.
 pub(crate) fn text_places(
     seen: &mut IndexSet<Vec<u8>>,
     alloc: Global,

@@ -1,4 +1,4 @@
-use Rattle.chunk_data.proofs.Imports.{Column, List, Value, arith, column_type, length, length-map, map, value_range, values, ◌<◌, ◌∙◌, ◌≡◌}
+use Rattle.chunk_data.proofs.Imports.{Column, List, Value, arith, column_type, length, length-map, map, value_range, ◌<◌, ◌∙◌, ◌≡◌}
 use Rattle.chunk_data.proofs.ColumnLists.{Joined-more, Joined-all, Joined-back, Joined-same, Joined-long, agrees_at, agreed_long, other_at}
 use Rattle.chunk_data.proofs.column_list.append_ranges.Goals as goal
 
@@ -7,22 +7,13 @@ append_range-requires-clause-kinds c = agrees_at column_type _ _ _ _ _ _ c.requi
     c.loop-i.invariant.kinds (omega arith) c.index-others-i.is
 
 pub append_range-requires-clause-in_range : goal.append_range-requires-clause-in_range
-append_range-requires-clause-in_range c =
-    let long : length (map values c.args.others.now) ≡ length c.args.columns.now =
-    agreed_long column_type _ _ values c.requires.agree in
-    rw c.index-others-i.is (c.requires.in_range c.loop-i.i c.index-others-i.result
-    (omega (arith, long, length-map c.args.others.now values, Joined-long c.loop-i.invariant)))
+append_range-requires-clause-in_range c = search (arith, agreed_long, length-map, Joined-long)
 
 pub returns-in-Err-clause-kinds : goal.returns-in-Err-clause-kinds
-returns-in-Err-clause-kinds c =
-    c.truncate_columns.ensures.kinds ∙ (Joined-same c.index-columns-i.result _ c.loop-i.invariant
-    (omega arith) c.append_range.ensures.kind c.in-Err.ensures.err).kinds
+returns-in-Err-clause-kinds c = search (arith, Joined-same)
 
 pub returns-in-Err-clause-err : goal.returns-in-Err-clause-err
-returns-in-Err-clause-err c =
-    c.truncate_columns.ensures.front ∙ Joined-back _ (Joined-same c.index-columns-i.result _
-    c.loop-i.invariant (omega arith) c.append_range.ensures.kind c.in-Err.ensures.err)
-    c.requires.long
+returns-in-Err-clause-err c = search (arith, Joined-back, Joined-same)
 
 pub loop-i-preserved : goal.loop-i-preserved
 loop-i-preserved c =

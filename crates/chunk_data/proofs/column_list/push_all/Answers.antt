@@ -1,4 +1,4 @@
-use Rattle.chunk_data.proofs.Imports.{[], arith, column_type, length, length-map, map, ◌<◌, ◌∙◌, ◌∷◌, ◌≡◌}
+use Rattle.chunk_data.proofs.Imports.{[], arith, length, length-map, map, ◌<◌, ◌∙◌, ◌∷◌, ◌≡◌}
 use Rattle.chunk_data.proofs.ColumnLists.{Joined-more, Joined-all, Joined-back, Joined-same, Joined-long, fits_at, fits_long, other_at}
 use Rattle.chunk_data.proofs.Laws.{length-FitsTypes}
 use Rattle.chunk_data.proofs.column_list.push_all.Goals as goal
@@ -8,15 +8,10 @@ push_copy-requires c =
     fits_at _ _ _ _ _ _ c.requires.fits c.loop-i.invariant.kinds (omega arith) c.index-row-i.is
 
 pub returns-in-Err-clause-kinds : goal.returns-in-Err-clause-kinds
-returns-in-Err-clause-kinds c =
-    c.truncate_columns.ensures.kinds ∙ (Joined-same c.index-columns-i.result _ c.loop-i.invariant
-    (omega arith) c.push_copy.ensures.kind c.in-Err.ensures.err).kinds
+returns-in-Err-clause-kinds c = search (arith, Joined-same)
 
 pub returns-in-Err-clause-err : goal.returns-in-Err-clause-err
-returns-in-Err-clause-err c =
-    c.truncate_columns.ensures.front
-    ∙ Joined-back _ (Joined-same c.index-columns-i.result _ c.loop-i.invariant (omega arith)
-    c.push_copy.ensures.kind c.in-Err.ensures.err) c.requires.long
+returns-in-Err-clause-err c = search (arith, Joined-back, Joined-same)
 
 pub loop-i-preserved : goal.loop-i-preserved
 loop-i-preserved c =
@@ -33,9 +28,4 @@ returns-clause-ok c =
     Joined-all c.loop-i.invariant (fits_long _ _ (λ v. v ∷ []) c.requires.fits) (omega arith)
 
 pub bounds-row-i : goal.bounds-row-i
-bounds-row-i c = omega (
-  arith,
-  length-FitsTypes _ _ c.requires.fits,
-  length-map c.args.columns.now column_type,
-  Joined-long c.loop-i.invariant,
-)
+bounds-row-i c = search (arith, length-FitsTypes, length-map, Joined-long)

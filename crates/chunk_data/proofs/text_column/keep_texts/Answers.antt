@@ -8,20 +8,10 @@ copy_within-requires-clause-start_le_end c = (KeepsTexts-next c.index-end.result
     c.loop-i.invariant c.requires.ends (omega arith) c.index-end.ensures).0
 
 pub copy_within-requires-clause-in_bounds : goal.copy_within-requires-clause-in_bounds
-copy_within-requires-clause-in_bounds c =
-    omega (
-      arith,
-      (KeepsTexts-next c.index-end.result.now c.loop-i.invariant c.requires.ends
-          (omega arith) c.index-end.ensures).1,
-    )
+copy_within-requires-clause-in_bounds c = search (arith, KeepsTexts-next)
 
 pub copy_within-requires-clause-dest_in_bounds : goal.copy_within-requires-clause-dest_in_bounds
-copy_within-requires-clause-dest_in_bounds c =
-    omega (
-      arith,
-      KeepsTexts-next c.index-end.result.now c.loop-i.invariant c.requires.ends
-          (omega arith) c.index-end.ensures,
-    )
+copy_within-requires-clause-dest_in_bounds c = search (arith, KeepsTexts-next)
 
 pub overflow_sub-written : goal.overflow_sub-written
 overflow_sub-written c = (KeepsTexts-next c.index-end.result.now c.loop-i.invariant c.requires.ends

@@ -3,12 +3,7 @@ use Rattle.chunk_data.proofs.ColumnLists.{changed, get_or-changed, changed_more,
 use Rattle.chunk_data.proofs.text_column.shift_down.Goals as goal
 
 pub overflow_sub-index_mut : goal.overflow_sub-index_mut
-overflow_sub-index_mut c =
-    let lt : c.loop-i.i < length c.args.ends.now.items = omega arith in
-    let e : c.index_mut.result.now ≡ get_or c.args.ends.now.items c.loop-i.i
-    c.index_mut.result.now = c.index_mut.ensures.value ∙ ap (λ l. get_or l c.loop-i.i
-    c.index_mut.result.now) c.loop-i.invariant ∙ get_or-changed _ c.loop-i.i _ _ in
-    omega (arith, e, c.requires c.loop-i.i c.index_mut.result.now lt)
+overflow_sub-index_mut c = search (arith, get_or-changed)
 
 pub loop-i-preserved : goal.loop-i-preserved
 loop-i-preserved c =

@@ -1,5 +1,4 @@
-use Rattle.std.proofs.Common.{arith}
-use Rattle.csv_rows.proofs.Imports.{is_mark, no_mark}
+use Rattle.csv_rows.proofs.Imports.{arith, is_mark, no_mark}
 use Rattle.csv_rows.proofs.ByteRuns.{run_bound, run_through, run_stops}
 use Rattle.csv_rows.proofs.field_ends.mark_from.Goals as goal
 

@@ -1,5 +1,4 @@
-use Rattle.std.proofs.Common.{◌≡◌, ◌+◌, ◌-◌, ◌≤◌, length, drop}
-use Rattle.csv_rows.proofs.Imports.{no_mark, prefix_len}
+use Rattle.csv_rows.proofs.Imports.{◌≡◌, ◌+◌, ◌-◌, ◌≤◌, length, drop, no_mark, prefix_len}
 use Rattle.csv_rows.proofs.field_ends.mark_from.Given as goal
 
 abbrev pub invariant-lanes : goal.invariant-lanes

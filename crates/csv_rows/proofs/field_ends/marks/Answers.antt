@@ -1,5 +1,4 @@
-use Rattle.csv_rows.proofs.Imports.{is_mark, length-map, mask_l, mask_l-mod, top, zip2_of_maps, zip2_splat}
-use Rattle.std.proofs.Common.{Bool, List, [], ap, ap₂, arith, bit_or, cond, false, map, refl, true, ℕ, ◌%◌, ◌==◌, ◌^◌, ◌||◌, ◌∙◌, ◌∷◌, ◌≡◌}
+use Rattle.csv_rows.proofs.Imports.{Bool, List, [], ap, ap₂, arith, bit_or, cond, false, map, refl, true, ℕ, ◌%◌, ◌==◌, ◌^◌, ◌||◌, ◌∙◌, ◌∷◌, ◌≡◌, is_mark, length-map, mask_l, mask_l-mod, top, zip2_of_maps, zip2_splat}
 use Rattle.csv_rows.proofs.field_ends.marks.Goals as goal
 
 abbrev hit : ℕ → ℕ → ℕ

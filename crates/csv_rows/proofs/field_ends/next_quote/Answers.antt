@@ -1,5 +1,5 @@
-use Rattle.std.proofs.Common.{◌≡◌, ℕ, ◌+◌, ◌-◌, not, List, length, take, drop, refl, ap, sym, arith, length-drop}
-use Rattle.csv_rows.proofs.Imports.{false_from_ne_true, no_quote, prefix_len_is, take_all}
+use Rattle.csv_rows.proofs.Imports.{◌≡◌, ℕ, ◌+◌, ◌-◌, not, List, length, take, drop, refl, ap, sym, arith, false_from_ne_true, no_quote, prefix_len_is, take_all}
+use Rattle.std.proofs.Common.{length-drop}
 use Rattle.csv_rows.proofs.field_ends.next_quote.Goals as goal
 
 -- the bytes from a place on, as a slice has them

@@ -1,4 +1,4 @@
-use Rattle.std.proofs.Common.{◌∙◌, sym, arith}
+use Rattle.csv_rows.proofs.Imports.{◌∙◌, sym, arith}
 use Rattle.csv_rows.proofs.FieldPlaces.{quoted_starts, quoted_twice, quoted_closes, quoted_open}
 use Rattle.csv_rows.proofs.field_ends.quoted_end.Goals as goal
 

@@ -1,4 +1,4 @@
-use Rattle.std.proofs.Common.{◌-◌, length}
+use Rattle.csv_rows.proofs.Imports.{◌-◌, length}
 use Rattle.csv_rows.proofs.FieldPlaces.{QuotedSoFar}
 use Rattle.csv_rows.proofs.field_ends.quoted_end.Given as goal
 

@@ -1,5 +1,4 @@
-use Rattle.std.proofs.Common.{◌≡◌, ℕ}
-use Rattle.csv_rows.proofs.Imports.{records_at}
+use Rattle.csv_rows.proofs.Imports.{◌≡◌, ℕ, records_at}
 use Rattle.csv_rows.proofs.field_ends.skip_ends.Given as goal
 
 abbrev pub invariant-loop-i : goal.invariant-loop-i

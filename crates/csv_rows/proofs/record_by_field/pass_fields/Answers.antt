@@ -1,4 +1,4 @@
-use Rattle.std.proofs.Common.{◌∙◌, sym}
+use Rattle.csv_rows.proofs.Imports.{◌∙◌, sym}
 use Rattle.csv_rows.proofs.FieldPlaces.{more_next, more_last}
 use Rattle.csv_rows.proofs.record_by_field.pass_fields.Goals as goal
 

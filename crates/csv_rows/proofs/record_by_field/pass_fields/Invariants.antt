@@ -1,4 +1,4 @@
-use Rattle.std.proofs.Common.{◌-◌, length}
+use Rattle.csv_rows.proofs.Imports.{◌-◌, length}
 use Rattle.csv_rows.proofs.FieldPlaces.{MoreSoFar}
 use Rattle.csv_rows.proofs.record_by_field.pass_fields.Given as goal
 

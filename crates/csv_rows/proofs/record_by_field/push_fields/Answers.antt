@@ -1,4 +1,4 @@
-use Rattle.std.proofs.Common.{◌∙◌, sym, arith, [], refl}
+use Rattle.csv_rows.proofs.Imports.{◌∙◌, arith, [], refl}
 use Rattle.csv_rows.proofs.Pushing.{back_at, row_none, row_more, row_back, row_ends, row_beyond}
 use Rattle.csv_rows.proofs.record_by_field.push_fields.Goals as goal
 
@@ -20,11 +20,7 @@ returns-then-not-whole-clause-ok c =
     (omega (arith, h.many)) refl (λ whole. absurd cc)
 
 pub loop-i-preserved : goal.loop-i-preserved
-loop-i-preserved c =
-    row_more c.index-columns-i.result c.push_field.new.column c.loop-i.invariant (omega arith)
-    c.in_ok-whole.ensures.kind c.in_ok-text.ensures
-    (rw c.if-not-whole.false at c.in_ok-whole.ensures.ok)
-    (sym c.byte_at.ensures ∙ c.if-not-byte_at.false)
+loop-i-preserved c = search (arith, row_more)
 
 pub returns-clause-ok : goal.returns-clause-ok
 returns-clause-ok c =

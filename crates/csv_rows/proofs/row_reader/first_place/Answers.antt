@@ -1,4 +1,4 @@
-use Rattle.std.proofs.Common.{arith}
+use Rattle.csv_rows.proofs.Imports.{arith}
 use Rattle.csv_rows.proofs.PartPlaces.{part_headed}
 use Rattle.csv_rows.proofs.row_reader.first_place.Goals as goal
 

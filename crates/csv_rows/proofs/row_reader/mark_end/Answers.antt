@@ -1,5 +1,4 @@
-use Rattle.std.proofs.Common.{sym}
-use Rattle.csv.proofs.ReadFacts.{strip-short}
+use Rattle.csv_rows.proofs.Imports.{sym, strip-short}
 use Rattle.csv_rows.proofs.PartPlaces.{bom_is}
 use Rattle.csv_rows.proofs.row_reader.mark_end.Goals as goal
 

@@ -1,4 +1,4 @@
-use Rattle.std.proofs.Common.{◌∙◌, sym, arith}
+use Rattle.csv_rows.proofs.Imports.{◌∙◌, sym, arith}
 use Rattle.csv_rows.proofs.Pushing.{ReadSoFar-none, ReadSoFar-more, ReadSoFar-stop, ReadSoFar-some}
 use Rattle.csv_rows.proofs.row_reader.read_front.Goals.{then-rows-most-via-then-rows-most, then-rows-most-via-else-rows-most+then-is_over}
 use Rattle.csv_rows.proofs.row_reader.read_front.Goals as goal

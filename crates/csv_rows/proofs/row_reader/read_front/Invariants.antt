@@ -1,4 +1,4 @@
-use Rattle.std.proofs.Common.{◌-◌}
+use Rattle.csv_rows.proofs.Imports.{◌-◌}
 use Rattle.csv_rows.proofs.Pushing.{ReadSoFar}
 use Rattle.csv_rows.proofs.row_reader.read_front.Given as goal
 

@@ -1,4 +1,5 @@
-use Rattle.chunk_data.proofs.Imports.{[], column_type, map, take, values, ◌≡◌}
+use Rattle.csv_rows.proofs.Imports.{column_type, values}
+use Rattle.chunk_data.proofs.Imports.{[], map, take, ◌≡◌}
 use Rattle.csv_rows.proofs.row_reader.roomy_columns.Given as goal
 
 abbrev pub invariant-loop-kind : goal.invariant-loop-kind

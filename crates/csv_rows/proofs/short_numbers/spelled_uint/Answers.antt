@@ -1,5 +1,4 @@
-use Rattle.std.proofs.Common.{sym, ◌∙◌, arith}
-use Rattle.csv_rows.proofs.Imports.{with_digits-end, with_digits-numeral}
+use Rattle.csv_rows.proofs.Imports.{◌∙◌, arith, with_digits-end, with_digits-numeral}
 use Rattle.csv_rows.proofs.ShortNumbers.{read_more}
 use Rattle.csv_rows.proofs.short_numbers.spelled_uint.Goals as goal
 
@@ -17,6 +16,4 @@ loop-b-preserved c =
     (more.0 ∙ h.0, more.1)
 
 pub returns-then-good : goal.returns-then-good
-returns-then-good c =
-    sym (with_digits-end c.args.field.now c.loop-b.b-index c.loop-b.number
-    (omega (arith, c.loop-b-test.false))) ∙ (rw c.if-good.true at c.loop-b.invariant.0)
+returns-then-good c = search (arith, with_digits-end)

@@ -1,5 +1,4 @@
-use Rattle.std.proofs.Common.{◌≡◌, ◌^◌, ◌<◌, true, drop}
-use Rattle.csv_rows.proofs.Imports.{numeral_below}
+use Rattle.csv_rows.proofs.Imports.{◌≡◌, ◌^◌, ◌<◌, true, drop, numeral_below}
 use Rattle.csv_rows.proofs.ShortNumbers.{read_on}
 use Rattle.csv_rows.proofs.short_numbers.spelled_uint.Given as goal
 

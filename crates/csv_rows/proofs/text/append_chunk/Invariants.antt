@@ -1,4 +1,5 @@
-use Rattle.query_model.proofs.Imports.{rows_text, take, ◌++◌, ◌≡◌}
+use Rattle.csv_rows.proofs.Imports.{rows_text}
+use Rattle.query_model.proofs.Imports.{take, ◌++◌, ◌≡◌}
 use Rattle.csv_rows.proofs.text.append_chunk.Given as goal
 
 abbrev pub invariant-loop-i : goal.invariant-loop-i

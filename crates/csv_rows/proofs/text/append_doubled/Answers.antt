@@ -1,5 +1,5 @@
-use Rattle.std.proofs.Common.{◌≡◌, ℕ, ◌==◌, ◌||◌, Bool, true, false, cond, List, [], ◌∷◌, ◌++◌, flat_map, refl, ap, ◌∙◌, sym}
-use Rattle.csv_rows.proofs.Imports.{doubled, list_any}
+use Rattle.csv_rows.proofs.Imports.{arith, ◌≡◌, ℕ, ◌==◌, ◌||◌, Bool, true, false, cond, List, [], ◌∷◌, ◌++◌, refl, ap, ◌∙◌, doubled, list_any}
+use Rattle.std.proofs.Common.{flat_map}
 use Rattle.csv_rows.proofs.text.append_doubled.Goals as goal
 
 -- a text without a quote stays as it is
@@ -15,8 +15,4 @@ doubled-plain (b ∷ bytes) h = go (b == 34) h (doubled-plain bytes)
     go false e more = ap (λ l. b ∷ l) (more e)
 
 pub returns-then-not-contains : goal.returns-then-not-contains
-returns-then-not-contains c =
-    c.in_ok-extend_from_slice.ensures.items
-    ∙ ap (λ l. c.args.out.now.items ++ l)
-    (sym (doubled-plain c.args.text.now (sym c.contains.ensures.value
-    ∙ c.if-not-contains.true)))
+returns-then-not-contains c = search (arith, doubled-plain)

@@ -1,4 +1,5 @@
-use Rattle.query_model.proofs.Imports.{doubled, flat_map, take, ◌++◌, ◌≡◌}
+use Rattle.csv_rows.proofs.Imports.{doubled, flat_map}
+use Rattle.query_model.proofs.Imports.{take, ◌++◌, ◌≡◌}
 use Rattle.csv_rows.proofs.text.append_doubled.Given as goal
 
 abbrev pub invariant-loop-byte : goal.invariant-loop-byte

@@ -1,5 +1,4 @@
-use Rattle.std.proofs.Common.{◌≡◌, ◌++◌}
-use Rattle.csv_rows.proofs.Imports.{row_at, row_front}
+use Rattle.csv_rows.proofs.Imports.{◌≡◌, ◌++◌, row_at, row_front}
 use Rattle.csv_rows.proofs.text.append_row.Given as goal
 
 abbrev pub invariant-loop-c : goal.invariant-loop-c

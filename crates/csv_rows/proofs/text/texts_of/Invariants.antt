@@ -1,4 +1,5 @@
-use Rattle.query_model.proofs.Imports.{Text, map, take, ◌≡◌}
+use Rattle.csv_rows.proofs.Imports.{Text}
+use Rattle.query_model.proofs.Imports.{map, take, ◌≡◌}
 use Rattle.csv_rows.proofs.text.texts_of.Given as goal
 
 abbrev pub invariant-loop-name : goal.invariant-loop-name

@@ -1,6 +1,5 @@
-use Rattle.csv_rows.specs.Lines.{heading}
-use Rattle.query_model.proofs.Imports.{Table, flat_map, rows_text, take, ◌++◌, ◌≡◌}
-use Rattle.std.specs.Option.{option_copied}
+use Rattle.csv_rows.proofs.Imports.{heading, Table, flat_map, rows_text, option_copied}
+use Rattle.query_model.proofs.Imports.{take, ◌++◌, ◌≡◌}
 use Rattle.csv_rows.proofs.text.write_rows.Given as goal
 
 abbrev pub invariant-loop-chunk : goal.invariant-loop-chunk

@@ -1,10 +1,10 @@
-use Rattle.expr_eval.proofs.Imports.{not, refl, truth_of, ◌&&◌, ◌||◌}
+use Rattle.expr_eval.proofs.Imports.{arith, refl, truth_of, ◌&&◌, ◌||◌}
 use Rattle.expr_eval.proofs.Onto.{each_is, pairs_are}
 use Rattle.expr_eval.proofs.condition.+mask.Goals as goal
 
-pub returns-in_ok-truths-in-Compare : goal.returns-in_ok-truths-in-Compare
+pub returns-in-Compare : goal.returns-in-Compare
 unfolding truth_of
-returns-in_ok-truths-in-Compare t c = rw c.in-Compare.is c.in_ok-truths-in-Compare.ensures
+returns-in-Compare t c = rw c.in-Compare.is c.compare.ensures
 
 pub returns-in_ok-others-in-And : goal.returns-in_ok-others-in-And
 unfolding truth_of
@@ -26,8 +26,4 @@ returns-in_ok-others-in-Or t c =
 
 pub returns-in_ok-truths-in-Not : goal.returns-in_ok-truths-in-Not
 unfolding truth_of
-returns-in_ok-truths-in-Not t c =
-    each_is (λ m. not m) (truth_of c.deref-in-Not.result.now) (truth_of c.args.cond.now)
-    c.args.chunk.now.rows
-    c.negated.ensures c.in_ok-truths-in-Not.ensures
-    (λ row. rw (c.in-Not.is, c.deref-in-Not.ensures) refl)
+returns-in_ok-truths-in-Not t c = search (arith, each_is)

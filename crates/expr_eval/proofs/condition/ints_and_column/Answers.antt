@@ -1,13 +1,15 @@
-use Rattle.expr_eval.proofs.Imports.{Int, UInt, compared, int_cmp, passes, pos, refl}
+use Rattle.expr_eval.proofs.Imports.{IfOk-weaker, Int, UInt, compared, int_cmp, passes, pos, refl}
 use Rattle.expr_eval.proofs.Applied.{masked_pairs}
 use Rattle.expr_eval.proofs.condition.ints_and_column.Goals as goal
 
-pub returns-in_ok-mask-in-Int64 : goal.returns-in_ok-mask-in-Int64
-returns-in_ok-mask-in-Int64 c = masked_pairs Int Int (λ a b. passes c.args.op (compared a b))
+pub returns-in-Int64 : goal.returns-in-Int64
+returns-in-Int64 c = IfOk-weaker c.int_mask.result _ _ (λ m e.
+    masked_pairs Int Int (λ a b. passes c.args.op (compared a b))
     (λ a b. passes c.args.op (int_cmp a b)) c.args.xs.now c.ints.result.now
-    c.in_ok-mask-in-Int64.ensures refl c.ints.ensures (λ a b. refl)
+    e refl c.ints.ensures (λ a b. refl)) c.int_mask.ensures
 
-pub returns-in_ok-mask-in-UInt64 : goal.returns-in_ok-mask-in-UInt64
-returns-in_ok-mask-in-UInt64 c = masked_pairs Int UInt (λ a b. passes c.args.op (compared a b))
+pub returns-in-UInt64 : goal.returns-in-UInt64
+returns-in-UInt64 c = IfOk-weaker c.int_uint_mask.result _ _ (λ m e.
+    masked_pairs Int UInt (λ a b. passes c.args.op (compared a b))
     (λ a b. passes c.args.op (int_cmp a (pos b))) c.args.xs.now c.uints.result.now
-    c.in_ok-mask-in-UInt64.ensures refl c.uints.ensures (λ a b. refl)
+    e refl c.uints.ensures (λ a b. refl)) c.int_uint_mask.ensures

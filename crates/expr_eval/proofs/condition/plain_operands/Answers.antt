@@ -1,4 +1,4 @@
-use Rattle.expr_eval.proofs.Imports.{Some, ap, compared, number_of, passes, plain_of, plain_value, sym, type_of_number, value_of, ◌∙◌, ◌≡◌, arith}
+use Rattle.expr_eval.proofs.Imports.{IfOk-weaker, Some, ap, compared, number_of, passes, plain_of, plain_value, sym, type_of_number, value_of, ◌∙◌, ◌≡◌, arith}
 use Rattle.expr_eval.proofs.Onto.{same_maps}
 use Rattle.expr_eval.proofs.Operands.{plain_value_of}
 use Rattle.expr_eval.proofs.Comparisons.{plain_is_number}
@@ -10,22 +10,25 @@ plain_compared-requires-clause-not_text c = grind (arith, type_of_number, plain_
 pub number_compared-requires-clause-not_text : goal.number_compared-requires-clause-not_text
 number_compared-requires-clause-not_text c = grind (arith, type_of_number, plain_is_number)
 
-pub returns-in_ok-mask-in-Some : goal.returns-in_ok-mask-in-Some
-returns-in_ok-mask-in-Some c =
+pub returns-in-Some : goal.returns-in-Some
+returns-in-Some c =
     let e : plain_of c.args.left.now ≡ Some (number_of c.in-Some.n) =
     rw c.in-Some.is at c.plain_number.ensures in
-    c.in_ok-mask-in-Some.ensures ∙ same_maps (λ row. passes c.args.op
+    IfOk-weaker c.plain_compared.result _ _ (λ m h. h ∙ same_maps (λ row. passes c.args.op
     (compared (plain_value (number_of c.in-Some.n)) (value_of c.args.right.now row))) (λ row.
     passes c.args.op (compared (value_of c.args.left.now row) (value_of c.args.right.now row)))
     c.args.chunk.now.rows (λ row. ap (λ v. passes c.args.op (compared v
-    (value_of c.args.right.now row))) (sym (plain_value_of c.args.left.now _ row e)))
+    (value_of c.args.right.now row))) (sym (plain_value_of c.args.left.now _ row e))))
+    c.plain_compared.ensures
 
-pub returns-in_ok-mask-in-Some-plain_number : goal.returns-in_ok-mask-in-Some-plain_number
-returns-in_ok-mask-in-Some-plain_number c =
+pub returns-in-Some-plain_number : goal.returns-in-Some-plain_number
+returns-in-Some-plain_number c =
     let e : plain_of c.args.right.now ≡ Some (number_of c.in-Some-plain_number.k) =
     rw c.in-Some-plain_number.is at c.plain_number-in-None.ensures in
-    c.in_ok-mask-in-Some-plain_number.ensures ∙ same_maps (λ row. passes c.args.op (compared
+    IfOk-weaker c.number_compared.result _ _ (λ m h. h ∙ same_maps (λ row. passes c.args.op
+    (compared
     (value_of c.args.left.now row) (plain_value (number_of c.in-Some-plain_number.k)))) (λ row.
     passes c.args.op (compared (value_of c.args.left.now row) (value_of c.args.right.now row)))
     c.args.chunk.now.rows (λ row. ap (λ v. passes c.args.op (compared
-    (value_of c.args.left.now row) v)) (sym (plain_value_of c.args.right.now _ row e)))
+    (value_of c.args.left.now row) v)) (sym (plain_value_of c.args.right.now _ row e))))
+    c.number_compared.ensures

@@ -1,4 +1,4 @@
-use Rattle.expr_eval.proofs.Imports.{Text, compared, get_or_default, passes, refl, text_cmp, type_of, value_at, value_of, ◌<◌, ◌∙◌, arith}
+use Rattle.expr_eval.proofs.Imports.{IfOk-weaker, Text, compared, get_or_default, passes, refl, text_cmp, type_of, value_at, value_of, ◌<◌, ◌∙◌, arith}
 use Rattle.expr_eval.proofs.Onto.{each_is}
 use Rattle.expr_eval.proofs.Applied.{masked_one}
 use Rattle.expr_eval.proofs.Operands.{arith_not_text, text_type}
@@ -19,11 +19,12 @@ unreachable-requires-in-Arith c = arith_not_text _ (rw c.in-Arith.is at c.requir
 
 pub returns : goal.returns
 unfolding value_of
-returns c =
+returns c = IfOk-weaker c.text_mask_beside.result _ _ (λ m e.
     each_is (λ v. passes c.args.op (compared v (Text c.args.text.now)))
     (λ row. value_at row c.in-Column.c) (λ row. passes c.args.op
     (compared (value_of c.args.expr.now row) (Text c.args.text.now))) c.args.chunk.now.rows
     (masked_one Text (λ v. passes c.args.op (compared v (Text c.args.text.now)))
     (λ x. passes c.args.op (text_cmp x c.args.text.now)) c.texts.result.now
-    (rw c.as_slice.ensures at c.in_ok-mask-in-Column.ensures) c.texts.ensures (λ x. refl))
-    c.column-column.ensures.values (λ row. rw c.in-Column.is refl)
+    e c.texts.ensures (λ x. refl))
+    c.column-column.ensures.values (λ row. rw c.in-Column.is refl))
+    (rw c.as_slice.ensures at c.text_mask_beside.ensures)

@@ -4,10 +4,10 @@ use Rattle.expr_eval.proofs.expression.eval.Goals as goal
 pub column-requires : goal.column-requires
 column-requires c = rw c.in-Column.is at c.requires.typed
 
-pub returns-in_ok-column-in-Column-clause-kind : goal.returns-in_ok-column-in-Column-clause-kind
+pub returns-in-Column-clause-kind : goal.returns-in-Column-clause-kind
 unfolding type_of
-returns-in_ok-column-in-Column-clause-kind c = grind (arith, get_or_default)
+returns-in-Column-clause-kind c = grind (arith, get_or_default)
 
-pub returns-in_ok-column-in-Column-clause-values : goal.returns-in_ok-column-in-Column-clause-values
+pub returns-in-Column-clause-values : goal.returns-in-Column-clause-values
 unfolding value_of
-returns-in_ok-column-in-Column-clause-values c = grind arith
+returns-in-Column-clause-values c = grind arith

@@ -1,6 +1,4 @@
-use Rattle.std.proofs.Common.{[], ◌≡◌, ◌<◌, ◌∙◌, ◌∷◌, length, false, true, map, sym, ap, subst, arith}
-use Rattle.chunk_data.specs.Values.{is_text, plain_type}
-use Rattle.key_codes.proofs.Imports.{All, IsCell, IsSeenFor, codes_in, column_type, first_key_column, number_codes, plain_types_at, values}
+use Rattle.key_codes.proofs.Imports.{[], ◌≡◌, ◌<◌, ◌∙◌, ◌∷◌, length, false, true, map, sym, ap, subst, arith, is_text, plain_type, All, IsCell, IsSeenFor, codes_in, column_type, first_key_column, number_codes, plain_types_at, values}
 use Rattle.key_codes.proofs.CodeLaws.{on-ok, on-ok-more}
 use Rattle.key_codes.proofs.KeyLaws.{found-codes, found-places, kind-at, one-codes, kinds-long, one-form, one-keys, text-cells, text-codes, whole-codes}
 use Rattle.key_codes.proofs.key_code.find_places.Goals as goal

@@ -1,5 +1,4 @@
-use Rattle.std.proofs.Common.{◌≡◌, ◌<◌, [], length, map, ◌∙◌, sym, subst, arith, inl, inr}
-use Rattle.key_codes.proofs.Imports.{HasKey, byte_codes, cases_lt, get_or-map, get_or_default, length-map, row_at, row_code}
+use Rattle.key_codes.proofs.Imports.{◌≡◌, ◌<◌, [], length, map, ◌∙◌, sym, subst, arith, inl, inr, HasKey, byte_codes, cases_lt, get_or-map, get_or_default, length-map, row_at, row_code}
 use Rattle.key_codes.proofs.KeyLaws.{finds-next, several-code}
 use Rattle.key_codes.proofs.places.code_places.Goals as goal
 

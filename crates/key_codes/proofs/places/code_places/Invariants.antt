@@ -1,5 +1,4 @@
-use Rattle.std.proofs.Common.{◌<◌, ℕ, map}
-use Rattle.key_codes.proofs.Imports.{HasKey, byte_codes, row_at, row_code}
+use Rattle.key_codes.proofs.Imports.{◌<◌, ℕ, map, HasKey, byte_codes, row_at, row_code}
 use Rattle.key_codes.proofs.KeyLaws.{FindsSome}
 use Rattle.key_codes.proofs.places.code_places.Given as goal
 

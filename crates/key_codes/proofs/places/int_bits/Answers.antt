@@ -1,8 +1,6 @@
-use Rattle.std.proofs.Common.{get_or, pos, w64, SFits, arith, rules, subst}
-use Rattle.std.proofs.Math.Facts.{to_z-of_z}
+use Rattle.key_codes.proofs.Imports.{get_or, pos, w64, SFits, arith, rules, subst, to_z-of_z, IsCell}
 use Rattle.chunk_data.specs.declared.typed_value.PlainType.TheVariants as plain
 use Rattle.chunk_data.specs.declared.typed_value.Value.TheVariants as value
-use Rattle.key_codes.proofs.Imports.{IsCell}
 use Rattle.key_codes.proofs.KeyLaws.{cells-more, cells-of, ints-next}
 use Rattle.key_codes.proofs.places.int_bits.Goals as goal
 

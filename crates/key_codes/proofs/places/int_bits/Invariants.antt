@@ -1,7 +1,5 @@
-use Rattle.std.proofs.Common.{◌≡◌, ◌<◌, ℕ, [], ◌∷◌, get_or, map, pos, take}
-use Rattle.key_codes.proofs.Imports.{IsCell, value_code}
+use Rattle.key_codes.proofs.Imports.{◌≡◌, ◌<◌, ℕ, [], ◌∷◌, get_or, map, pos, take, Int, IsCell, value_code}
 use Rattle.chunk_data.specs.declared.typed_value.PlainType.TheVariants as plain
-use Rattle.chunk_data.specs.declared.typed_value.Value.TheVariants.{Int}
 use Rattle.key_codes.proofs.places.int_bits.Given as goal
 
 abbrev pub invariant-loop-i : goal.invariant-loop-i

@@ -1,5 +1,4 @@
-use Rattle.std.proofs.Common.{[], ◌∷◌, map, sym, arith}
-use Rattle.key_codes.proofs.Imports.{get_or-map, length-map, number_codes}
+use Rattle.key_codes.proofs.Imports.{[], ◌∷◌, map, sym, arith, get_or-map, length-map, number_codes}
 use Rattle.key_codes.proofs.KeyLaws.{finds-next}
 use Rattle.key_codes.proofs.places.number_places.Goals as goal
 

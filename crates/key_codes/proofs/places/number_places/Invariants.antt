@@ -1,5 +1,4 @@
-use Rattle.std.proofs.Common.{[], ◌∷◌, map}
-use Rattle.key_codes.proofs.Imports.{number_codes}
+use Rattle.key_codes.proofs.Imports.{[], ◌∷◌, map, number_codes}
 use Rattle.key_codes.proofs.KeyLaws.{FindsSome}
 use Rattle.key_codes.proofs.places.number_places.Given as goal
 

@@ -1,6 +1,5 @@
-use Rattle.std.proofs.Common.{Global, Vec, ℕ, subst, sym, arith}
+use Rattle.key_codes.proofs.Imports.{Global, Vec, ℕ, subst, sym, arith, FindsCode, byte_codes}
 use Rattle.key_codes.proofs.CodeLaws.{finds-code, misses-code, puts-code}
-use Rattle.key_codes.proofs.Imports.{FindsCode, byte_codes}
 use Rattle.key_codes.proofs.places.place_of.Goals.{in-Ok, in-Err}
 use Rattle.key_codes.proofs.places.place_of.Goals as goal
 

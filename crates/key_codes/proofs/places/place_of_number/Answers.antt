@@ -1,6 +1,5 @@
-use Rattle.std.proofs.Common.{[], ◌∷◌, subst, sym, arith}
+use Rattle.key_codes.proofs.Imports.{[], ◌∷◌, subst, sym, arith, FindsCode, number_codes}
 use Rattle.key_codes.proofs.CodeLaws.{finds-number, misses-number, puts-number}
-use Rattle.key_codes.proofs.Imports.{FindsCode, number_codes}
 use Rattle.key_codes.proofs.places.place_of_number.Goals as goal
 
 pub returns-in-Some : goal.returns-in-Some

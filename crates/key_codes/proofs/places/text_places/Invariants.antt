@@ -1,5 +1,4 @@
-use Rattle.std.proofs.Common.{◌<◌, ◌^◌, ℕ, [], get_or, length}
-use Rattle.key_codes.proofs.Imports.{byte_codes}
+use Rattle.key_codes.proofs.Imports.{◌<◌, ◌^◌, ℕ, [], get_or, length, byte_codes}
 use Rattle.key_codes.proofs.KeyLaws.{FindsSome}
 use Rattle.key_codes.proofs.places.text_places.Given as goal
 

@@ -1,4 +1,4 @@
-use Rattle.std.proofs.Common.{arith}
+use Rattle.key_codes.proofs.Imports.{arith}
 use Rattle.chunk_data.specs.declared.typed_value.PlainType.TheVariants as plain
 use Rattle.chunk_data.specs.declared.typed_value.Value.TheVariants as value
 use Rattle.key_codes.proofs.KeyLaws.{cells-of}

@@ -1,7 +1,5 @@
-use Rattle.std.proofs.Common.{◌≡◌, ◌<◌, ℕ, [], ◌∷◌, get_or, map, take}
-use Rattle.key_codes.proofs.Imports.{IsCell, value_code}
+use Rattle.key_codes.proofs.Imports.{◌≡◌, ◌<◌, ℕ, [], ◌∷◌, get_or, map, take, UInt, IsCell, value_code}
 use Rattle.chunk_data.specs.declared.typed_value.PlainType.TheVariants as plain
-use Rattle.chunk_data.specs.declared.typed_value.Value.TheVariants.{UInt}
 use Rattle.key_codes.proofs.places.uint_bits.Given as goal
 
 abbrev pub invariant-loop-i : goal.invariant-loop-i

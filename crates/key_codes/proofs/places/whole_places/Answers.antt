@@ -1,6 +1,4 @@
-use Rattle.std.proofs.Common.{List, ℕ, [], replicate, sym, arith}
-use Rattle.std.proofs.lemmas.List.{get_or-replicate, length-replicate}
-use Rattle.key_codes.proofs.Imports.{whole_codes}
+use Rattle.key_codes.proofs.Imports.{List, ℕ, [], replicate, sym, arith, get_or-replicate, length-replicate, whole_codes}
 use Rattle.key_codes.proofs.KeyLaws.{finds-next}
 use Rattle.key_codes.proofs.places.whole_places.Goals as goal
 

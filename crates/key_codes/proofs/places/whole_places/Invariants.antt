@@ -1,5 +1,4 @@
-use Rattle.std.proofs.Common.{[], replicate}
-use Rattle.key_codes.proofs.Imports.{whole_codes}
+use Rattle.key_codes.proofs.Imports.{[], replicate, whole_codes}
 use Rattle.key_codes.proofs.KeyLaws.{FindsSome}
 use Rattle.key_codes.proofs.places.whole_places.Given as goal
 

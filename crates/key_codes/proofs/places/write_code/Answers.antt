@@ -1,5 +1,4 @@
-use Rattle.std.proofs.Common.{◌<◌, ◌++◌, length, get_or, ap, ◌∙◌, arith}
-use Rattle.key_codes.proofs.Imports.{column_type, row_at, value_at, value_bytes, values}
+use Rattle.key_codes.proofs.Imports.{◌<◌, ◌++◌, length, get_or, ap, ◌∙◌, arith, column_type, row_at, value_at, value_bytes, values}
 use Rattle.key_codes.proofs.KeyLaws.{bytes-next, cell-type, cell-value, cells-next}
 use Rattle.key_codes.proofs.places.write_code.Goals as goal
 

@@ -1,5 +1,4 @@
-use Rattle.std.proofs.Common.{◌≡◌, flat_map, take}
-use Rattle.key_codes.proofs.Imports.{HasKey, key_at, row_at, value_bytes}
+use Rattle.key_codes.proofs.Imports.{◌≡◌, flat_map, take, HasKey, key_at, row_at, value_bytes}
 use Rattle.key_codes.proofs.places.write_code.Given as goal
 
 abbrev pub invariant-loop-place : goal.invariant-loop-place

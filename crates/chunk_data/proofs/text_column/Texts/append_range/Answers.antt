@@ -3,13 +3,7 @@ use Rattle.chunk_data.proofs.Cuts.{AreEnds_range, cut_range, length-cut, range_a
 use Rattle.chunk_data.proofs.text_column.Texts.append_range.Goals as goal
 
 pub push_moved-requires-clause-above : goal.push_moved-requires-clause-above
-push_moved-requires-clause-above c =
-    let long : length c.args.other.now ≡ length c.other.inside.ends.items =
-    sym (ap length c.other.view_is) ∙ length-cut _ _ _ in
-    let le : c.args.from + c.args.n ≤ length c.other.inside.ends.items = omega arith in
-    rw c.as_slice-ends.ensures.value
-    (range_above c.other.inside.bytes.items c.other.inside.ends.items c.args.from c.args.n _
-    c.other.invariant le (rw c.as_slice-ends.ensures.value at c.start_of-start.ensures))
+push_moved-requires-clause-above c = search (arith, length-cut, range_above)
 
 pub push_moved-requires-clause-fits : goal.push_moved-requires-clause-fits
 push_moved-requires-clause-fits c = λ k d lt.

@@ -1,13 +1,9 @@
-use Rattle.chunk_data.proofs.Imports.{ap, arith, drop, drop_all, length, sym, ◌∙◌, ◌≡◌}
+use Rattle.chunk_data.proofs.Imports.{ap, arith, drop, drop_all, ◌∙◌, ◌≡◌}
 use Rattle.chunk_data.proofs.Cuts.{length-cut, rest_above, AreEnds_rest, cut_rest_of}
 use Rattle.chunk_data.proofs.text_column.Texts.remove_front.Goals as goal
 
 pub returns-then-len-n : goal.returns-then-len-n
-returns-then-len-n c =
-    let e : length c.args.self.now ≡ length c.self.inside.ends.items =
-    sym (ap length c.self.view_is) ∙ length-cut _ _ _ in
-    rw (c.clear.ensures.items, c.clear-then-len-n.ensures.items)
-    (sym (drop_all c.args.n c.args.self.now (omega arith)))
+returns-then-len-n c = search (arith, length-cut, drop_all)
 
 pub shift_down-requires : goal.shift_down-requires
 shift_down-requires c =
