@@ -1,5 +1,5 @@
 -- Calls that are counted, and calls that are placed one behind another.
-use Rattle.query_model.proofs.Imports.{AggCall, AreAdded, ArePicks, ColumnRef, EachWith, FromColumn, IsPick, IsPlacedCall, Item, List, [], ap, append_assoc, arith, cond, filter, flat_map, get_or, is_call_item, item_calls, length, length-append, map, map-append, operand_calls, place_in, suc, take, take_more, total, ℕ, ◌++◌, ◌+◌, ◌<◌, ◌∙◌, ◌∷◌, ◌≡◌, OperandForm}
+use Rattle.query_model.proofs.Imports.{AggCall, AreAdded, ArePicks, ColumnRef, EachWith, FromColumn, IsPick, IsPlacedCall, Item, ItemTree, List, [], ap, append_assoc, arith, cond, filter, flat_map, get_or, is_call_item, item_calls, item_tree, length, length-append, map, map-append, operand_calls, place_in, suc, take, take_more, total, ℕ, ◌++◌, ◌+◌, ◌<◌, ◌∷◌, ◌≡◌, OperandForm}
 
 total-append : (xs ys : List ℕ) → total (xs ++ ys) ≡ total xs + total ys
 total-append [] ys = omega arith
@@ -49,13 +49,15 @@ picks_last place k n (x ∷ items) (q ∷ picks) i p h e is = grind
     (arith, length-append, picks_last place (k + length (item_calls x.what)) n items picks i p)
 picks_last place k n items picks i p h e is = absurd h
 
-last_counted : (xs : List Item) (x : Item) → length (filter is_call_item xs)
+last_counted : (xs : List ItemTree) (x : ItemTree) → length (filter is_call_item xs)
     + cond (is_call_item x) 1 0 ≡ length (filter is_call_item (xs ++ x ∷ []))
 last_counted [] x = search (arith)
 last_counted (y ∷ xs) x = search (arith, last_counted xs x)
 
 -- one more item is counted
 pub one_more_counted : (items : List Item) (i : ℕ) (d : Item) (n m : ℕ) → i < length items
-    → n ≡ length (filter is_call_item (take i items)) → m ≡ n + cond
-    (is_call_item (get_or items i d)) 1 0 → m ≡ length (filter is_call_item (take (i + 1) items))
-one_more_counted items i d n m lt e f = grind (arith, take_more items i d, last_counted)
+    → n ≡ length (filter is_call_item (map item_tree (take i items)))
+    → m ≡ n + cond (is_call_item (item_tree (get_or items i d))) 1 0
+    → m ≡ length (filter is_call_item (map item_tree (take (i + 1) items)))
+one_more_counted items i d n m lt e f =
+    grind (arith, take_more items i d, map-append, last_counted)

@@ -35,8 +35,7 @@ map-same : {B : Type 0} (n : ℕ) (f g : Row → B) → ((k : Row) → length k 
     → (ks : List Row) → All (λ k. length k ≡ n) ks → map f ks ≡ map g ks
 map-same n f g same [] h = refl
 map-same n f g same (k ∷ ks) h =
-    ap₂ ◌∷◌ (same k (All-head (λ k. length k ≡ n) k ks h))
-    (map-same n f g same ks (All-tail (λ k. length k ≡ n) k ks h))
+    search (arith, All-head, All-tail, map-same n f g same ks (All-tail (λ k. length k ≡ n) k ks h))
 
 filter-same : (n : ℕ) (p q : Row → Bool) → ((k : Row) → length k ≡ n → p k ≡ q k) → (ks : List Row)
     → All (λ k. length k ≡ n) ks → filter p ks ≡ filter q ks

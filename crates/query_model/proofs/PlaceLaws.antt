@@ -1,5 +1,5 @@
 -- The place of the first that passes a test.
-use Rattle.query_model.proofs.Imports.{Bool, List, [], arith, false, get_or, length, list_any, place_of, refl, suc, take, true, zero, ℕ, ◌+◌, ◌<◌, ◌||◌, ◌∷◌, ◌≡◌, ◌≤◌}
+use Rattle.query_model.proofs.Imports.{Bool, List, [], arith, false, get_or, length, list_any, place_of, refl, suc, take, true, zero, ℕ, ◌<◌, ◌∷◌, ◌≡◌, ◌≤◌}
 
 -- the first that passes
 pub place_found : {A : Type 0} (test : A → Bool) (xs : List A) (i : ℕ) (d : A) → list_any test

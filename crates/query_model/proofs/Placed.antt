@@ -1,5 +1,5 @@
 -- Lists that are placed one by one.
-use Rattle.query_model.proofs.Imports.{All, All-cons, All-head, All-nil, All-tail, AreColumnsFrom, EachWith, Expr, FromColumn, Item, List, [], ap, arith, get_or, item_names, length, length-take, name_or, plain_name, refl, subst, suc, sym, take, take_more, ℕ, ◌++◌, ◌+◌, ◌<◌, ◌∷◌, ◌≡◌, item_what}
+use Rattle.query_model.proofs.Imports.{All, All-cons, All-head, All-nil, All-tail, AreColumnsFrom, EachWith, Expr, FromColumn, Item, ItemTree, item_tree, item_what, map, List, [], ap, arith, get_or, item_names, length, length-take, name_or, plain_name, refl, subst, suc, sym, take, take_more, ℕ, ◌++◌, ◌+◌, ◌<◌, ◌∷◌, ◌≡◌}
 use Rattle.chunk_data.specs.declared.typed_value.ColumnType.TheVariants as column
 use Rattle.query_model.specs.declared.query.ExprOf.TheVariants as expr
 
@@ -25,8 +25,7 @@ each_more R xs ys i d y lt h r = search (arith, take_more, each_last)
 
 columns_last : (k n : ℕ) (cs : List FromColumn) (es : List Expr) (c : FromColumn) → AreColumnsFrom k
     cs es → n ≡ k + length cs → AreColumnsFrom k (cs ++ c ∷ []) (es ++ expr.Column n ∷ [])
-columns_last k n (x ∷ cs) (expr.Column m ∷ es) c h e =
-    grind (arith, columns_last (k + 1) n cs es c)
+columns_last k n (x ∷ cs) (expr.Column m ∷ es) c h e = grind (arith, columns_last (k + 1) n cs es c)
 columns_last k n cs es c h e = grind arith
 
 pub columns_more : (cs : List FromColumn) (es : List Expr) (i : ℕ) → i < length cs → AreColumnsFrom
@@ -40,12 +39,13 @@ columns_more cs es i lt h =
     none = record { table = []; name = []; type = column.Text }
 
 -- names of items, of which the last has a place behind them
-pub names_last : (k n : ℕ) (items : List Item) (i : Item) → n ≡ k + length items → item_names k
-    (items ++ i ∷ []) ≡ item_names k items ++ name_or i.alias (plain_name (item_what i.what) n) ∷ []
+pub names_last : (k n : ℕ) (items : List Item) (i : Item) → n ≡ k + length items
+    → item_names k (map item_tree (items ++ i ∷ []))
+    ≡ item_names k (map item_tree items) ++ name_or i.alias (plain_name (item_what i.what) n) ∷ []
 names_last k n [] i e =
     ap (λ m. name_or i.alias (plain_name (item_what i.what) m) ∷ []) (omega (arith, e))
 names_last k n (x ∷ items) i e = search (arith, names_last (k + 1) n items i (omega (arith, e)))
 
-pub length-item_names : (k : ℕ) (items : List Item) → length (item_names k items) ≡ length items
+pub length-item_names : (k : ℕ) (items : List ItemTree) → length (item_names k items) ≡ length items
 length-item_names k [] = refl
 length-item_names k (x ∷ items) = ap suc (length-item_names (k + 1) items)

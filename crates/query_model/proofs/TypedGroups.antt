@@ -1,5 +1,5 @@
 -- The checked query of a query that no condition refuses is typed.
-use Rattle.query_model.proofs.Imports.{OperandForm, AggCall, All, All-append, All-cons, All-head, All-map, All-nil, All-tail, All-weaker, ArePicks, ArePlainItems, Bool, CanBePicked, Checked, ColumnRef, ColumnType, CondOf, EachWith, Expr, FromColumn, Grouping, HasItsArgument, IsAnalysable, IsChecked, IsGrouping, IsItem, IsNoCall, IsPick, IsPlacedCall, IsPlacedItem, IsShape, IsTypedCall, IsTypedGrouping, IsTypedQuery, IsTypedShape, Item, ItemKind, Items, OperandTyping, List, Listed, NamePair, None, Operand, Option, Query, Schema, Shape, Some, Star, [], agg_typing, and_parts, ap, append_assoc, arith, bare_columns, call_type, calls_of, cond, cond_fits, cond_operands, expr_columns, expr_typing, false, filter, fits_where, flat_map, flat_map-append, from_columns, get_or-append-add, group_types, is_grouped, is_key_of, is_typed, item_calls, item_columns, item_typing, join_pairs, key_place, length, length-append, length-map, list_all, list_any, listed, map, means, meant, nat_lt, operand_columns, operands_of, place_in, place_of, plain, query_calls, refl, refusal_of, same_column, slice_index_or, subst, suc, sym, text_columns, true, typed, type_at, types_of, unfit, ℕ, ◌&&◌, ◌++◌, ◌+◌, ◌<◌, ◌==◌, ◌||◌, ◌∙◌, ◌∷◌, ◌≡◌, ◌≤◌, argument_form, cond_form, formula, item_what, option_map, query_tree, sides_in}
+use Rattle.query_model.proofs.Imports.{OperandForm, AggCall, All, All-append, All-cons, All-head, All-map, All-nil, All-tail, All-weaker, ArePicks, ArePlainItems, Bool, CanBePicked, Checked, ColumnRef, ColumnType, CondOf, EachWith, Expr, FromColumn, Grouping, HasItsArgument, IsAnalysable, IsChecked, IsGrouping, IsItem, IsNoCall, IsPick, IsPlacedCall, IsPlacedItem, IsShape, IsTypedCall, IsTypedGrouping, IsTypedQuery, IsTypedShape, Item, ItemKind, Items, OperandTyping, List, Listed, NamePair, None, Operand, Option, Query, Schema, Shape, Some, Star, [], agg_typing, and_parts, ap, append_assoc, arith, bare_columns, call_type, calls_of, cond, cond_fits, cond_operands, expr_columns, expr_typing, false, filter, fits_where, flat_map, flat_map-append, from_columns, get_or-append-add, group_types, is_grouped, is_key_of, is_typed, item_calls, item_columns, item_typing, join_pairs, key_place, length, length-append, length-map, list_all, list_any, listed, map, means, meant, nat_lt, operand_columns, operands_of, place_in, place_of, plain, query_calls, refl, refusal_of, same_column, slice_index_or, subst, suc, sym, text_columns, true, typed, type_at, types_of, unfit, ℕ, ◌&&◌, ◌++◌, ◌+◌, ◌<◌, ◌==◌, ◌||◌, ◌∙◌, ◌∷◌, ◌≡◌, ◌≤◌, argument_form, cond_form, formula, item_tree, item_what, items_in, option_map, query_tree, selection, sides_in, from_types, ItemTree, QueryTree}
 use Rattle.chunk_data.specs.declared.typed_value.ColumnType.TheVariants as column
 use Rattle.query_model.specs.Names.{type_of}
 use Rattle.query_model.specs.Formulas as form
@@ -12,7 +12,7 @@ use Rattle.query_model.proofs.Placed.{All-front, All-behind}
 use Rattle.query_model.proofs.PlaceLaws.{place_within}
 use Rattle.query_model.proofs.CallLaws.{length_each}
 use Rattle.query_model.proofs.TypedQueries.{IsOfKind, IsFit, IsTypeOf, IsWellPlaced, HaveTypesOf, have_types_both, is_item, columns_are_typed, column_is_of_kind, every_column, expr_is_of_kind, call_is_of_kind, filter_is_typed}
-use Rattle.query_model.proofs.Accepted.{IsWithoutRefusal, unrefused_is_accepted, knows_each, tells_each, AllTypesFit, all_fit, AreKeysOrCalls, are_keys}
+use Rattle.query_model.proofs.Accepted.{IsWithoutRefusal, unrefused_is_accepted, knows_each, tells_each, AllTypesFit, all_fit, AreKeysOrCalls, are_keys, listed_trees}
 
 -- Names that mean one column.
 
@@ -154,14 +154,14 @@ module _ (columns : List FromColumn) where
 
   -- The calls of a query whose types fit.
 
-  abbrev AreTyped : List Item → Type 0
-  AreTyped items =
-      list_all (λ (i : Item). is_typed (item_typing columns (item_what i.what))) items ≡ true
+  abbrev AreTyped : List ItemTree → Type 0
+  AreTyped items = list_all (λ (i : ItemTree). is_typed (item_typing columns i.what)) items ≡ true
 
   abbrev calls_in_items : List Item → List (AggCall ColumnRef)
   calls_in_items items = flat_map (λ (i : Item). item_calls i.what) items
 
-  item_calls_fit : (items : List Item) → AreTyped items → All IsFitCall (calls_in_items items)
+  item_calls_fit : (items : List Item) → AreTyped (map item_tree items)
+      → All IsFitCall (calls_in_items items)
   item_calls_fit [] h = All-nil IsFitCall
   item_calls_fit (i ∷ items) h =
       grind (arith, and_parts, All-append, All-cons, All-nil, item_calls_fit items)
@@ -211,20 +211,19 @@ module _ (columns : List FromColumn) where
 
 -- The parts of the text.
 
-module _ (P : ColumnRef → Type 0) (q : Query) (h : All P (text_columns q)) where
+module _ (P : ColumnRef → Type 0) (t : QueryTree) (h : All P (text_columns t)) where
   abbrev before_keys : List ColumnRef
   before_keys =
-      flat_map (λ (i : Item). item_columns (item_what i.what)) (listed q.items)
-      ++ flat_map (λ (p : NamePair). p.left ∷ p.right ∷ []) (join_pairs q.join)
-      ++ flat_map operand_columns (sides_in (query_tree q).filter)
+      flat_map (λ (i : ItemTree). item_columns i.what) (items_in t.items)
+      ++ flat_map (λ (p : NamePair). p.left ∷ p.right ∷ []) (join_pairs t.join)
+      ++ flat_map operand_columns (sides_in t.filter)
 
-  in_keys : All P q.keys
+  in_keys : All P t.keys
   in_keys =
-      All-behind P before_keys q.keys
-      (All-front P (before_keys ++ q.keys)
-      (flat_map operand_columns (sides_in (query_tree q).having)) h)
+      All-behind P before_keys t.keys
+      (All-front P (before_keys ++ t.keys) (flat_map operand_columns (sides_in t.having)) h)
 
-  in_having : All P (flat_map operand_columns (sides_in (query_tree q).having))
+  in_having : All P (flat_map operand_columns (sides_in t.having))
   in_having = search (arith, All-behind)
 
 bare_among : (P : ColumnRef → Type 0) (os : List (OperandForm ColumnRef))
@@ -245,7 +244,8 @@ no_calls (o ∷ os) h = no_calls os (All-tail IsNoCall o os h)
 -- The whole.
 
 plain_items_typed : (columns : List FromColumn) (items : Items) (es : List Expr)
-    → ArePlainItems (place_in columns) columns items es → AreTyped columns (listed items)
+    → ArePlainItems (place_in columns) columns items es
+    → AreTyped columns (items_in (selection items))
     → All (IsItem (types_of columns)) es
 plain_items_typed columns Star es is h =
     columns_are_typed (types_of columns) 0 columns es is
@@ -262,7 +262,7 @@ plain_items_typed columns (Listed items) es is h = go items es is h
     here (kind.Agg call) alias e is t = absurd is
 
     go : (items : List Item) (es : List Expr) → EachWith (IsPlacedItem (place_in columns)) items es
-        → AreTyped columns items → All (IsItem (types_of columns)) es
+        → AreTyped columns (map item_tree items) → All (IsItem (types_of columns)) es
     go [] [] is h = All-nil (IsItem (types_of columns))
     go (i ∷ items) (e ∷ es) is h =
         let each = and_parts (is_typed (item_typing columns (item_what i.what))) _ h in
@@ -271,9 +271,9 @@ plain_items_typed columns (Listed items) es is h = go items es is h
     go items es is h = absurd is
 
 grouping_typed : (q : Query) (columns : List FromColumn) (g : Grouping) → IsGrouping q columns g
-    → IsAnalysable q → AllTypesFit columns q → AreKeysOrCalls columns q
-    → All (IsKnown columns) (text_columns q)
-    → All (MeansOne columns) (text_columns q) → IsTypedGrouping (types_of columns) g
+    → IsAnalysable q → AllTypesFit columns (query_tree q) → AreKeysOrCalls columns q
+    → All (IsKnown columns) (text_columns (query_tree q))
+    → All (MeansOne columns) (text_columns (query_tree q)) → IsTypedGrouping (types_of columns) g
 grouping_typed q columns g is can fit are known one =
     let in_items = calls_in_items columns (listed q.items) in
     let in_having_calls = flat_map calls_of (operands_of q.having) in
@@ -286,19 +286,21 @@ grouping_typed q columns g is can fit are known one =
     sym (length-map (map (place_in columns) q.keys) (type_at (types_of columns))
     ∙ length-map q.keys (place_in columns)) in
     record {
-      keys = rw is.keys (keys_within columns q.keys (in_keys (IsKnown columns) q known));
+      keys = rw is.keys
+          (keys_within columns q.keys (in_keys (IsKnown columns) (query_tree q) known));
       calls =
           calls_typed columns (query_calls q) g.calls is.calls can.calls
           (All-append (IsFitCall columns) in_items in_having_calls (item_calls_fit columns
-          (listed q.items) fit.items) (having_calls_fit columns q.having fit.having));
+          (listed q.items) (rw (listed_trees q.items) at fit.items))
+          (having_calls_fit columns q.having fit.having));
       having =
           rw types_are (filter_is_typed (front ++ rest) columns (key_place columns q.keys)
           (length q.keys + length in_items) q.having g.having
           (all_well_placed columns q.keys rest
           (flat_map bare_columns (sides_in (query_tree q).having))
-          (in_keys (MeansOne columns) q one)
+          (in_keys (MeansOne columns) (query_tree q) one)
           (bare_among (MeansOne columns) (sides_in (query_tree q).having)
-          (in_having (MeansOne columns) q one)) are.having)
+          (in_having (MeansOne columns) (query_tree q) one)) are.having)
           (have_types_both (front ++ rest) columns (length q.keys) in_items in_having_calls
           (calls_have_types columns front (length q.keys) (query_calls q) g.calls long is.calls
           can.calls)).1
@@ -317,26 +319,29 @@ grouping_typed q columns g is can fit are known one =
 -- The checked query of a query that no condition refuses is typed.
 pub checked_is_typed : (q : Query) (schemas : List Schema) (c : Checked) → IsAnalysable q
     → refusal_of q schemas ≡ None → IsChecked q schemas c
-    → IsTypedQuery (types_of (from_columns q schemas)) c
+    → IsTypedQuery (from_types q schemas) c
 checked_is_typed q schemas c can none is =
-    let columns = from_columns q schemas in
+    let columns = from_columns (query_tree q) schemas in
     record {
-      items = shape_typed (is_grouped q) refl c.shape is.shape;
+      items = shape_typed (is_grouped (query_tree q)) refl c.shape is.shape;
       filter =
           filter_is_typed (types_of columns) columns (place_in columns) 0 q.filter c.filter
           (every_column columns (flat_map bare_columns (sides_in (query_tree q).filter)))
           (rw (no_calls (operands_of q.filter) can.filter) tt) is.filter
-          (all_fit q schemas (unrefused_is_accepted q schemas none)).filter;
+          (all_fit (query_tree q) schemas ok).filter;
     }
   where
-    ok : IsWithoutRefusal q schemas
+    ok : IsWithoutRefusal (query_tree q) schemas
     ok = unrefused_is_accepted q schemas none
 
-    shape_typed : (b : Bool) → is_grouped q ≡ b → (s : Shape) → IsShape q
-        (from_columns q schemas) b s → IsTypedShape (types_of (from_columns q schemas)) s
+    shape_typed : (b : Bool) → is_grouped (query_tree q) ≡ b → (s : Shape)
+        → IsShape q (from_columns (query_tree q) schemas) b s
+        → IsTypedShape (from_types q schemas) s
     shape_typed false e (shape.Plain es) is =
-        plain_items_typed (from_columns q schemas) q.items es is (all_fit q schemas ok).items
+        plain_items_typed (from_columns (query_tree q) schemas) q.items es is
+        (all_fit (query_tree q) schemas ok).items
     shape_typed true e (shape.Grouped g) is =
-        grouping_typed q (from_columns q schemas) g is can (all_fit q schemas ok)
-        (are_keys q schemas ok e) (knows_each q schemas ok) (tells_each q schemas ok)
+        grouping_typed q (from_columns (query_tree q) schemas) g is can
+        (all_fit (query_tree q) schemas ok) (are_keys q schemas ok e)
+        (knows_each (query_tree q) schemas ok) (tells_each (query_tree q) schemas ok)
     shape_typed b e s is = absurd is

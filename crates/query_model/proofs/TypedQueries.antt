@@ -1,11 +1,10 @@
 -- A query whose types fit has typed items and a typed condition, once its names have places.
-use Rattle.query_model.proofs.Imports.{AggCall, AggOp, All, All-head, All-nil, AreColumnsFrom, AreNumbersAlike, ArithOp, BothOrNone, CanHold, ColumnRef, ColumnType, CompareOp, Cond, CondOf, Count, Expr, ExprOf, FromColumn, HasItsArgument, IsGroupedOperand, IsItem, IsPlaced, IsPlacedCall, IsPlacedCond, IsTyped, IsTypedCall, IsTypedCond, IsTypedFilter, IsTypedOperand, OperandTyping, List, None, Operand, Option, Some, [], agg_typing, and_parts, append-nil, arith, arith_typing, arith_type, bare_columns, call_typing, call_type, calls_of, comparable, cond_fits, cond_operands, expr_columns, expr_typing, false, fits_where, flat_map, flat_map-append, is_some, is_text, is_typed, known_typing, length, means, meant_type, not, not-true, operand_typing, operand_type, operands_of, place_in, place_of, plain, number_type, plain_of, refl, result_type, same_plain-is, same_type, subst, sym, takes_argument, true, typed, types_of, unfit, ℕ, ℤ, ⊤, ◌&&◌, ◌++◌, ◌+◌, ◌∙◌, ◌∷◌, ◌≡◌, ◌≤◌, argument_form, cond_form, formula, map, map-append, operand_form, option_map, sides_in}
+use Rattle.query_model.proofs.Imports.{AggCall, AggOp, All, All-head, All-nil, AreColumnsFrom, AreNumbersAlike, ArithOp, BothOrNone, CanHold, ColumnRef, ColumnType, CompareOp, Cond, CondOf, Count, Expr, ExprOf, FromColumn, HasItsArgument, IsGroupedOperand, IsItem, IsPlaced, IsPlacedCall, IsPlacedCond, IsTyped, IsTypedCall, IsTypedCond, IsTypedFilter, IsTypedOperand, OperandTyping, List, None, Operand, Option, Some, [], agg_typing, and_parts, append-nil, arith, arith_typing, arith_type, bare_columns, call_typing, call_type, calls_of, comparable, cond_fits, cond_operands, expr_columns, expr_typing, false, fits_where, flat_map, flat_map-append, is_some, is_text, is_typed, known_typing, length, means, meant_type, not, not-true, operand_typing, operand_type, operands_of, place_in, place_of, plain, number_type, plain_of, refl, result_type, same_plain-is, same_type, sym, takes_argument, true, typed, types_of, unfit, ℕ, ℤ, ⊤, ◌&&◌, ◌++◌, ◌+◌, ◌∙◌, ◌∷◌, ◌≡◌, ◌≤◌, argument_form, cond_form, formula, map, map-append, operand_form, option_map, sides_in, sides_of}
 use Rattle.query_model.specs.Names.{type_of}
 use Rattle.query_model.specs.declared.query.ExprOf.TheVariants as expr
 use Rattle.query_model.specs.declared.query.Operand.TheVariants as operand
 use Rattle.query_model.specs.declared.query.CondOf.TheVariants as cond'
 use Rattle.query_model.proofs.Placed.{All-front, All-behind}
-use Rattle.query_model.proofs.SameTrees.{forms-are-sides}
 use Rattle.query_model.proofs.WorkedRows.{Place}
 
 -- A placed expression is of a kind. Nothing is said of one whose types don't fit.
@@ -32,9 +31,7 @@ column_is_of_kind c (x ∷ columns) = search (arith, column_is_of_kind c columns
 -- Arithmetic.
 
 alike_types : (s t : ColumnType) → (same_type s t && not (is_text s)) ≡ true → AreNumbersAlike s t
-alike_types s t h =
-    let both = and_parts (same_type s t) (not (is_text s)) h in
-    (same_plain-is _ _ both.0, not-true (is_text s) both.1)
+alike_types s t h = search (arith, same_type, same_plain-is, not-true)
 
 -- the type of a result beside a plain number is that of two operands of the other's type
 pub type_before : (op : ArithOp) (t : ColumnType) (z : ℤ) → CanHold t z
@@ -115,10 +112,7 @@ module _ (types : List ColumnType) (columns : List FromColumn) (place : ColumnRe
       (expr_columns (formula e)) → IsPlaced place e p
       → IsOfKind types p (expr_typing columns (formula e))
   unfolding expr_columns expr_typing
-  expr_is_of_kind (expr.Column c) (expr.Column k) h is =
-      subst (λ (n : ℕ). IsOfKind types (expr.Column n) (known_typing (meant_type columns c)))
-      (sym is)
-      (All-head Placed c [] h)
+  expr_is_of_kind (expr.Column c) (expr.Column k) h is = search (arith, types, All-head)
   expr_is_of_kind (expr.Number m) (expr.Number n) h is = search (arith)
   expr_is_of_kind (expr.Arith' op p a q b) (expr.Arith' o r c s d) h is =
       rw is.0 (arith_is_of_kind types o r s c d (expr_typing columns (formula a))
@@ -183,6 +177,17 @@ pub have_types_both : (types : List ColumnType) (columns : List FromColumn) (k :
 have_types_both types columns k [] ys h = (tt, rw (let same : k + 0 ≡ k = omega arith in same) h)
 have_types_both types columns k (x ∷ xs) ys h =
     grind (arith, have_types_both types columns (k + 1) xs ys)
+
+-- the forms of a condition's operands are the sides of its form
+pub forms-are-sides : {C : Type 0} (c : CondOf C)
+    → map operand_form (cond_operands c) ≡ sides_of (cond_form c)
+unfolding cond_operands sides_of
+forms-are-sides (cond'.Compare op a b) = refl
+forms-are-sides (cond'.And' p a q b) =
+    search (arith, map-append, forms-are-sides a, forms-are-sides b)
+forms-are-sides (cond'.Or' p a q b) =
+    search (arith, map-append, forms-are-sides a, forms-are-sides b)
+forms-are-sides (cond'.Not' p a) = forms-are-sides a
 
 module _ (types : List ColumnType) (columns : List FromColumn) (place : ColumnRef → ℕ) where
   -- of operands whose calls stand from column k on: the names are well placed, and the calls have

@@ -150,12 +150,7 @@ three a = map (λ b. int_row (1 ∷ a ∷ b ∷ [])) (20 ∷ 21 ∷ 22 ∷ [])
 pub answers : (keys : List SortKey) (limit : Option Span) (rows ordered answer : List Row)
     → IsPermutation rows ordered → sorted_test (row_cmp keys) ordered ≡ true
     → answer ≡ limited limit ordered → IsOrderedAnswer keys limit rows answer
-answers keys limit rows ordered answer same sorted is = record {
-  ordered = ordered;
-  same_rows = same;
-  in_order = IsSorted-tested (row_cmp keys) ordered sorted;
-  is = is;
-}
+answers keys limit rows ordered answer same sorted is = search (arith, IsSorted-tested)
 
 -- the join's answer, of which there is one
 pub joined_answers : IsAnswer joined_lr left_and_right_rows (three 10 ++ three 11)

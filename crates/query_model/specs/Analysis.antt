@@ -5,6 +5,7 @@ use Rattle.query_model.specs.Expressions.{Cond}
 use Rattle.query_model.specs.Typing.{IsItem, IsTypedCall, IsTypedCond, group_types}
 use Rattle.query_model.specs.Checks.{operands_of, query_calls}
 use Rattle.query_model.specs.Refusals.{from_columns, refusal_of, types_of}
+use Rattle.query_model.specs.Trees.{query_tree}
 use Rattle.query_model.specs.declared.query.ExprOf.TheVariants as expr
 use Rattle.query_model.specs.declared.query.Operand.TheVariants as operand
 use Rattle.query_model.specs.declared.query.ItemKind.TheVariants as kind
@@ -51,7 +52,7 @@ IsDueRefusal q schemas refusal = (refusal ≡ refuse.Memory) ⊎ (refusal_of q s
 
 -- the types of the columns of From
 abbrev pub from_types : Query → List Schema → List ColumnType
-from_types q schemas = types_of (from_columns q schemas)
+from_types q schemas = types_of (from_columns (query_tree q) schemas)
 
 abbrev pub IsTypedFilter : List ColumnType → Option Cond → Type 0
 IsTypedFilter types None = Unit {0}

@@ -3,8 +3,9 @@
 use Rattle.std.specs.Prelude.{if◌then◌else◌, ◌++◌, ◌+◌, ◌==◌, ◌∷◌, ◌≡◌}
 use Rattle.query_model.specs.Prelude.{AggCall, Bool, Checked, CheckedJoin, ColumnRef, ColumnType, CondOf, ExprOf, Grouping, Item, ItemKind, Items, Join, KeyPair, List, Listed, NamePair, None, Operand, Option, OrderKey, Query, Schema, Shape, Some, Star, TableRef, TableUse, [], bytes_eq, false, flat_map, length, map, true, ℕ}
 use Rattle.query_model.specs.Expressions.{Expr, Cond}
-use Rattle.query_model.specs.Refusals.{FromColumn, OperandTyping, typed, means, same_column, table_columns, from_columns, joins, listed, is_grouped, output_names, item_typing, types_of}
-use Rattle.query_model.specs.Trees.{item_what}
+use Rattle.query_model.specs.Refusals.{FromColumn, OperandTyping, typed, means, same_column, table_columns, from_columns, joins, is_grouped, output_names, item_typing, types_of}
+use Rattle.query_model.specs.Trees.{ItemTree, Selection, query_tree, selection}
+use Rattle.query_model.specs.Trees as tree
 use Rattle.chunk_data.specs.declared.typed_value.ColumnType.TheVariants as column
 use Rattle.query_model.specs.declared.query.ExprOf.TheVariants as expr
 use Rattle.query_model.specs.declared.query.Operand.TheVariants as operand
@@ -100,6 +101,10 @@ IsCheckedJoin q schemas a b =
     (b.table ≡ use_of schemas a.table) × (b.pairs
     ≡ map (pair_of (table_columns schemas q.from) (table_columns schemas a.table)) a.pairs)
 
+abbrev pub listed : Items → List Item
+listed Star = []
+listed (Listed items) = items
+
 abbrev pub item_calls : ItemKind → List (AggCall ColumnRef)
 item_calls (kind.Plain e) = []
 item_calls (kind.Agg call) = call ∷ []
@@ -163,23 +168,23 @@ abbrev pub known_type : OperandTyping → ColumnType
 known_type (typed t) = t
 known_type _ = column.Text
 
-abbrev pub output_types : Items → List FromColumn → List ColumnType
-output_types Star columns = types_of columns
-output_types (Listed items) columns =
-    map (λ (i : Item). known_type (item_typing columns (item_what i.what))) items
+abbrev pub output_types : Selection → List FromColumn → List ColumnType
+output_types tree.star columns = types_of columns
+output_types (tree.listed items) columns =
+    map (λ (i : ItemTree). known_type (item_typing columns i.what)) items
 
 -- the checked query of a query that no condition refuses
 pub record IsChecked (q : Query) (schemas : List Schema) (c : Checked) : Type 0 where
   pub from : c.from ≡ use_of schemas q.from
   pub join : BothOrNone (IsCheckedJoin q schemas) q.join c.join
-  pub filter : BothOrNone (IsPlacedCond (λ n. place_of (means n) (from_columns q schemas)) 0)
-      q.filter c.filter
-  pub shape : IsShape q (from_columns q schemas) (is_grouped q) c.shape
-  pub names : c.names ≡ output_names q.items (from_columns q schemas)
-  pub types : c.types ≡ output_types q.items (from_columns q schemas)
+  pub filter : BothOrNone (IsPlacedCond
+      (λ n. place_of (means n) (from_columns (query_tree q) schemas)) 0) q.filter c.filter
+  pub shape : IsShape q (from_columns (query_tree q) schemas) (is_grouped (query_tree q)) c.shape
+  pub names : c.names ≡ output_names (selection q.items) (from_columns (query_tree q) schemas)
+  pub types : c.types ≡ output_types (selection q.items) (from_columns (query_tree q) schemas)
   pub order : c.order ≡ map (λ (key : OrderKey). record {
     column = place_of (bytes_eq key.name)
-        (output_names q.items (from_columns q schemas));
+        (output_names (selection q.items) (from_columns (query_tree q) schemas));
     descending = key.descending;
   }) q.order
   pub limit : c.limit ≡ q.limit

@@ -1,10 +1,10 @@
 -- What the steps of analysis answer.
 use Rattle.std.specs.Prelude.{◌++◌, ◌≡◌}
-use Rattle.query_model.specs.Prelude.{AggCall, Bool, CheckedJoin, ColumnRef, ExprTyping, Item, ItemKind, Join, List, Option, OrderKey, Query, Schema, Scope, SortKey, bytes_eq, false, find, map, not, option_map, option_or, true, ℕ, ℤ, ⊤}
+use Rattle.query_model.specs.Prelude.{AggCall, Bool, CheckedJoin, ColumnRef, ExprTyping, ItemKind, Join, List, Option, OrderKey, Schema, Scope, SortKey, bytes_eq, false, find, map, not, option_map, option_or, true, ℕ, ℤ, ⊤}
 use Rattle.query_model.specs.Expressions.{number_of}
-use Rattle.query_model.specs.Refusals.{FromColumn, OperandTyping, plain, typed, unfit, means, written, operand_columns, bare_columns, bare_names, is_key_of, listed, is_call, same_column, star_name, first_name, ungrouped_in_items}
+use Rattle.query_model.specs.Refusals.{FromColumn, OperandTyping, plain, typed, unfit, means, written, operand_columns, bare_columns, bare_names, is_key_of, same_column, star_name, first_name, ungrouped_in_items}
 use Rattle.query_model.specs.Formulas.{OperandForm}
-use Rattle.query_model.specs.Trees.{item_what, query_tree}
+use Rattle.query_model.specs.Trees.{QueryTree, items_in}
 use Rattle.query_model.specs.Checks.{place_of, EachWith, IsPlacedCall, pair_of, use_of}
 use Rattle.query_model.specs.declared.query.ExprOf.TheVariants as expr
 use Rattle.query_model.specs.declared.query.ItemKind.TheVariants as kind
@@ -52,12 +52,11 @@ columns_in true o = operand_columns o
 columns_in false o = bare_columns o
 
 -- the first of what may not stand in a grouped query
-abbrev pub first_ungrouped : List FromColumn → Query → Option (List ℕ)
-first_ungrouped columns q =
-    option_or (first_name (star_name q.items))
-    (option_or (first_name (map written (ungrouped_in_items columns q.keys (listed q.items))))
-    (option_map written
-    (find (λ c. not (is_key_of columns q.keys c)) (bare_names (query_tree q).having))))
+abbrev pub first_ungrouped : List FromColumn → QueryTree → Option (List ℕ)
+first_ungrouped columns t =
+    option_or (first_name (star_name t.items))
+    (option_or (first_name (map written (ungrouped_in_items columns t.keys (items_in t.items))))
+    (option_map written (find (λ c. not (is_key_of columns t.keys c)) (bare_names t.having))))
 
 -- what an expression is, with a plain number's value in the place of its spelling
 abbrev pub as_typing : ExprTyping → OperandTyping
@@ -68,9 +67,6 @@ as_typing expression.Unfit = unfit
 -- the number of a sign and a size
 abbrev pub number_value : Bool → ℕ → ℤ
 number_value negative size = number_of (record { negative = negative; size = size })
-
-abbrev pub is_call_item : Item → Bool
-is_call_item i = is_call (item_what i.what)
 
 -- an item of groups: a key or a call
 abbrev pub CanBePicked : (ColumnRef → Bool) → ItemKind → Type 0

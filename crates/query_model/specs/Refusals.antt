@@ -1,13 +1,14 @@
--- Why a query is refused: conditions over the whole query, of which the first in this order counts.
+-- Why a query is refused: conditions over the tree of the whole query, of which the first in this
+-- order counts.
 use Rattle.std.specs.Prelude.{if◌then◌else◌, ◌&&◌, ◌++◌, ◌+◌, ◌==◌, ◌||◌, ◌∷◌}
-use Rattle.query_model.specs.Prelude.{AggOp, ArithOp, Bool, ColumnDecl, ColumnRef, ColumnType, Count, Item, Items, Join, List, Listed, NamePair, Named, None, Option, OrderKey, Query, Refusal, Schema, Some, Star, Sum, TableRef, [], bytes_eq, codes, decimal, false, filter, find, flat_map, is_some, length, list_all, list_any, map, nat_lt, not, option_map, true, ℕ, ℤ}
+use Rattle.query_model.specs.Prelude.{AggOp, ArithOp, Bool, ColumnDecl, ColumnRef, ColumnType, Count, Join, List, NamePair, Named, None, Option, OrderKey, Query, Refusal, Schema, Some, Sum, TableRef, [], bytes_eq, codes, decimal, false, filter, find, flat_map, is_some, length, list_all, list_any, map, nat_lt, not, option_map, true, ℕ, ℤ}
 use Rattle.query_model.specs.Expressions.{arith_type, number_of, result_type}
 use Rattle.query_model.specs.Typing.{can_hold}
 use Rattle.chunk_data.specs.Values.{is_text, same_type}
 use Rattle.chunk_data.specs.declared.typed_value.ColumnType.TheVariants as column
 use Rattle.query_model.specs.Formulas.{CondForm, Formula, OperandForm, sides_in}
 use Rattle.query_model.specs.Formulas as form
-use Rattle.query_model.specs.Trees.{ItemWhat, item_what, query_tree}
+use Rattle.query_model.specs.Trees.{ItemTree, ItemWhat, QueryTree, Selection, items_in, query_tree}
 use Rattle.query_model.specs.Trees as tree
 use Rattle.query_model.specs.declared.query.TableRef.TheVariants.{Numbers}
 use Rattle.query_model.specs.declared.query.Refusal.TheVariants as refuse
@@ -53,12 +54,12 @@ abbrev pub join_pairs : Option Join → List NamePair
 join_pairs None = []
 join_pairs (Some join) = join.pairs
 
-abbrev pub query_tables : Query → List TableRef
-query_tables q = q.from ∷ join_tables q.join
+abbrev pub query_tables : QueryTree → List TableRef
+query_tables t = t.from ∷ join_tables t.join
 
 -- the columns of From: those of the FROM table, and then those of the JOIN table
-abbrev pub from_columns : Query → List Schema → List FromColumn
-from_columns q schemas = flat_map (table_columns schemas) (query_tables q)
+abbrev pub from_columns : QueryTree → List Schema → List FromColumn
+from_columns t schemas = flat_map (table_columns schemas) (query_tables t)
 
 abbrev pub is_in_table : Option (List ℕ) → List ℕ → Bool
 is_in_table None table = true
@@ -98,17 +99,13 @@ abbrev pub item_columns : ItemWhat → List ColumnRef
 item_columns (tree.plain_item e) = expr_columns e
 item_columns (tree.call_item c) = argument_columns c.arg
 
-abbrev pub listed : Items → List Item
-listed Star = []
-listed (Listed items) = items
-
-abbrev pub text_columns : Query → List ColumnRef
-text_columns q =
-    flat_map (λ (i : Item). item_columns (item_what i.what)) (listed q.items)
-    ++ flat_map (λ (p : NamePair). p.left ∷ p.right ∷ []) (join_pairs q.join)
-    ++ flat_map operand_columns (sides_in (query_tree q).filter)
-    ++ q.keys
-    ++ flat_map operand_columns (sides_in (query_tree q).having)
+abbrev pub text_columns : QueryTree → List ColumnRef
+text_columns t =
+    flat_map (λ (i : ItemTree). item_columns i.what) (items_in t.items)
+    ++ flat_map (λ (p : NamePair). p.left ∷ p.right ∷ []) (join_pairs t.join)
+    ++ flat_map operand_columns (sides_in t.filter)
+    ++ t.keys
+    ++ flat_map operand_columns (sides_in t.having)
 
 -- a column as it is written
 abbrev pub written_behind : Option (List ℕ) → List ℕ → List ℕ
@@ -244,13 +241,13 @@ abbrev pub item_typing : List FromColumn → ItemWhat → OperandTyping
 item_typing columns (tree.plain_item e) = expr_typing columns e
 item_typing columns (tree.call_item c) = agg_typing columns c.op c.arg
 
-abbrev pub types_fit : List FromColumn → Query → Bool
-types_fit columns q =
-    list_all (λ (i : Item). is_typed (item_typing columns (item_what i.what))) (listed q.items)
-    && fits_where columns (query_tree q).filter && fits_where columns (query_tree q).having
+abbrev pub types_fit : List FromColumn → QueryTree → Bool
+types_fit columns t =
+    list_all (λ (i : ItemTree). is_typed (item_typing columns i.what)) (items_in t.items)
+    && fits_where columns t.filter && fits_where columns t.having
 
-abbrev pub type_mismatch : List FromColumn → Query → Option Refusal
-type_mismatch columns q = refusal_unless (types_fit columns q) refuse.TypeMismatch
+abbrev pub type_mismatch : List FromColumn → QueryTree → Option Refusal
+type_mismatch columns t = refusal_unless (types_fit columns t) refuse.TypeMismatch
 
 -- grouping
 
@@ -258,10 +255,13 @@ abbrev pub is_call : ItemWhat → Bool
 is_call (tree.plain_item e) = false
 is_call (tree.call_item c) = true
 
+abbrev pub is_call_item : ItemTree → Bool
+is_call_item i = is_call i.what
+
 -- a query is grouped where it has GROUP BY, HAVING or an aggregate call
-abbrev pub is_grouped : Query → Bool
-is_grouped q = not (length q.keys == 0) || is_some q.having
-    || list_any (λ (i : Item). is_call (item_what i.what)) (listed q.items)
+abbrev pub is_grouped : QueryTree → Bool
+is_grouped t = not (length t.keys == 0) || is_some t.having
+    || list_any is_call_item (items_in t.items)
 
 -- two names mean one column
 abbrev pub same_column : List FromColumn → ColumnRef → ColumnRef → Bool
@@ -274,36 +274,35 @@ not_keys is_key (tree.plain_item (form.number n)) = []
 not_keys is_key (tree.plain_item (form.arith op a b)) = expr_columns a ++ expr_columns b
 not_keys is_key (tree.call_item c) = []
 
-abbrev pub star_name : Items → List (List ℕ)
-star_name Star = codes "*" ∷ []
-star_name (Listed items) = []
+abbrev pub star_name : Selection → List (List ℕ)
+star_name tree.star = codes "*" ∷ []
+star_name (tree.listed items) = []
 
 abbrev pub is_key_of : List FromColumn → List ColumnRef → ColumnRef → Bool
 is_key_of columns keys c = list_any (same_column columns c) keys
 
 -- the names in items that may not stand in a grouped query
-abbrev pub ungrouped_in_items : List FromColumn → List ColumnRef → List Item → List ColumnRef
+abbrev pub ungrouped_in_items : List FromColumn → List ColumnRef → List ItemTree → List ColumnRef
 ungrouped_in_items columns keys items =
-    flat_map (λ (i : Item). not_keys (is_key_of columns keys) (item_what i.what)) items
+    flat_map (λ (i : ItemTree). not_keys (is_key_of columns keys) i.what) items
 
 -- the names in HAVING outside of calls
 abbrev pub bare_names : Option (CondForm (OperandForm ColumnRef)) → List ColumnRef
 bare_names having = flat_map bare_columns (sides_in having)
 
 -- what may not stand in a grouped query, in the order of the text
-abbrev pub ungrouped_names : List FromColumn → Query → List (List ℕ)
-ungrouped_names columns q =
-    star_name q.items ++ map written (ungrouped_in_items columns q.keys (listed q.items))
-    ++ map written
-    (filter (λ c. not (is_key_of columns q.keys c)) (bare_names (query_tree q).having))
+abbrev pub ungrouped_names : List FromColumn → QueryTree → List (List ℕ)
+ungrouped_names columns t =
+    star_name t.items ++ map written (ungrouped_in_items columns t.keys (items_in t.items))
+    ++ map written (filter (λ c. not (is_key_of columns t.keys c)) (bare_names t.having))
 
 abbrev pub first_name : List (List ℕ) → Option (List ℕ)
 first_name [] = None
 first_name (name ∷ names) = Some name
 
-abbrev pub not_grouped : List FromColumn → Query → Option Refusal
-not_grouped columns q =
-    if is_grouped q then option_map refuse.NotGrouped (first_name (ungrouped_names columns q))
+abbrev pub not_grouped : List FromColumn → QueryTree → Option Refusal
+not_grouped columns t =
+    if is_grouped t then option_map refuse.NotGrouped (first_name (ungrouped_names columns t))
     else None
 
 -- output names and order
@@ -319,14 +318,13 @@ name_or None name = name
 name_or (Some alias) name = alias
 
 -- the names of items of which the first has place k
-abbrev pub item_names : ℕ → List Item → List (List ℕ)
+abbrev pub item_names : ℕ → List ItemTree → List (List ℕ)
 item_names k [] = []
-item_names k (i ∷ items) =
-    name_or i.alias (plain_name (item_what i.what) k) ∷ item_names (k + 1) items
+item_names k (i ∷ items) = name_or i.alias (plain_name i.what k) ∷ item_names (k + 1) items
 
-abbrev pub output_names : Items → List FromColumn → List (List ℕ)
-output_names Star columns = map (λ (c : FromColumn). c.name) columns
-output_names (Listed items) columns = item_names 1 items
+abbrev pub output_names : Selection → List FromColumn → List (List ℕ)
+output_names tree.star columns = map (λ (c : FromColumn). c.name) columns
+output_names (tree.listed items) columns = item_names 1 items
 
 -- the first key that is not exactly one of the output names
 abbrev pub bad_order_key : List (List ℕ) → List OrderKey → Option Refusal
@@ -345,18 +343,18 @@ abbrev pub total : List ℕ → ℕ
 total [] = 0
 total (n ∷ ns) = n + total ns
 
-abbrev pub calls_in : Query → ℕ
-calls_in q = length (filter (λ (i : Item). is_call (item_what i.what)) (listed q.items))
-    + total (map operand_calls (sides_in (query_tree q).having))
+abbrev pub calls_in : QueryTree → ℕ
+calls_in t = length (filter is_call_item (items_in t.items))
+    + total (map operand_calls (sides_in t.having))
 
 -- what may not be more than 64
-abbrev pub widths : List FromColumn → Query → List ℕ
-widths columns q =
-    length columns ∷ length (listed q.items) ∷ length q.keys ∷ length q.order
-    ∷ length (join_pairs q.join) ∷ calls_in q ∷ []
+abbrev pub widths : List FromColumn → QueryTree → List ℕ
+widths columns t =
+    length columns ∷ length (items_in t.items) ∷ length t.keys ∷ length t.order
+    ∷ length (join_pairs t.join) ∷ calls_in t ∷ []
 
-abbrev pub too_wide : List FromColumn → Query → Option Refusal
-too_wide columns q = if list_any (λ n. nat_lt 64 n) (widths columns q) then Some refuse.TooWide
+abbrev pub too_wide : List FromColumn → QueryTree → Option Refusal
+too_wide columns t = if list_any (λ n. nat_lt 64 n) (widths columns t) then Some refuse.TooWide
     else None
 
 abbrev pub first_of_all : {X : Type 0} → List (Option X) → Option X
@@ -365,16 +363,20 @@ first_of_all (None ∷ rest) = first_of_all rest
 first_of_all (Some x ∷ rest) = Some x
 
 -- the conditions in their order, over the columns of From and those of its two tables
-abbrev pub refusals : List Schema → (columns left right : List FromColumn) → Query
+abbrev pub refusals : List Schema → (columns left right : List FromColumn) → QueryTree
     → List (Option Refusal)
-refusals schemas columns left right q =
-    unknown_table schemas (query_tables q) ∷ unknown_column columns (text_columns q)
-    ∷ ambiguous_column columns (text_columns q) ∷ bad_join_key left right q.join
-    ∷ type_mismatch columns q ∷ not_grouped columns q
-    ∷ bad_order_key (output_names q.items columns) q.order ∷ too_wide columns q ∷ []
+refusals schemas columns left right t =
+    unknown_table schemas (query_tables t) ∷ unknown_column columns (text_columns t)
+    ∷ ambiguous_column columns (text_columns t) ∷ bad_join_key left right t.join
+    ∷ type_mismatch columns t ∷ not_grouped columns t
+    ∷ bad_order_key (output_names t.items columns) t.order ∷ too_wide columns t ∷ []
 
--- the first condition that the query meets, with the name that it carries
+-- the first condition that a query of a tree meets, with the name that it carries
+abbrev pub tree_refusal : QueryTree → List Schema → Option Refusal
+tree_refusal t schemas = first_of_all (
+    refusals schemas (from_columns t schemas) (table_columns schemas t.from)
+    (join_columns schemas t.join) t)
+
+-- why a query is refused goes by its tree alone
 unfoldable pub refusal_of : Query → List Schema → Option Refusal
-refusal_of q schemas = first_of_all (
-    refusals schemas (from_columns q schemas) (table_columns schemas q.from)
-    (join_columns schemas q.join) q)
+refusal_of q schemas = tree_refusal (query_tree q) schemas

@@ -1,5 +1,5 @@
 -- Queries apart from where their boxes lie.
-use Rattle.query_model.specs.Prelude.{ColumnRef, Item, ItemKind, Items, Join, List, Option, OrderKey, Query, map, option_map, ℕ}
+use Rattle.query_model.specs.Prelude.{ColumnRef, Item, ItemKind, Items, Join, List, Option, OrderKey, Query, [], map, option_map, ℕ}
 use Rattle.query_model.specs.Formulas.{CallForm, CondForm, Formula, OperandForm, call_form, cond_form, formula}
 use Rattle.query_model.specs.declared.query.ItemKind.TheVariants as kind
 use Rattle.query_model.specs.declared.query.Items.TheVariants as items
@@ -17,6 +17,11 @@ pub record ItemTree : Type 0 where
 pub data Selection : Type 0 where
   star : Selection
   listed : List ItemTree → Selection
+
+-- the items that are listed; `*` lists none
+abbrev pub items_in : Selection → List ItemTree
+items_in star = []
+items_in (listed is) = is
 
 pub record QueryTree : Type 0 where
   pub items : Selection

@@ -1,6 +1,6 @@
 // Queries checked against the declared tables.
 ghost use Rattle.std.specs.Prelude.{◌≡◌, ◌≤◌, None, length, IfOk, IfErr, OnOk};
-ghost use Rattle.query_model.specs.Names.{from_columns, join_columns, output_names, refusal_of, table_columns, BothOrNone, IsChecked, IsPlacedCond, place_in, IsAnalysable, IsDueRefusal, IsTypedQuery, from_types};
+ghost use Rattle.query_model.specs.Names.{from_columns, join_columns, output_names, refusal_of, table_columns, BothOrNone, IsChecked, IsPlacedCond, place_in, IsAnalysable, IsDueRefusal, IsTypedQuery, from_types, query_tree, selection};
 
 mod columns;
 mod groups;
@@ -23,7 +23,6 @@ use crate::query::{ColumnRef, CondOf, Query, Refusal, Schema};
 use chunk_data::{Bytes, List, Memory};
 use std::alloc::Global;
 
-/// WHERE with the places of its columns.
 fn place_where(
     alloc: Global,
     filter: &Option<CondOf<ColumnRef>>,
@@ -36,7 +35,6 @@ fn place_where(
     place_filter(alloc, Scope::Rows, filter, columns, &[], &mut calls)
 }
 
-/// The checked query of a query that no condition refuses.
 fn checked_query(
     alloc: Global,
     query: &Query,
@@ -47,10 +45,10 @@ fn checked_query(
     names: List<Bytes>,
 ) -> Result<Checked, Memory>
     requires analysable { IsAnalysable query.now }
-    requires columns { columns.now ≡ from_columns query.now tables.now }
+    requires columns { columns.now ≡ from_columns (query_tree query.now) tables.now }
     requires left { left.now ≡ table_columns tables.now query.now.from }
     requires right { right.now ≡ join_columns tables.now query.now.join }
-    requires names { names ≡ output_names query.now.items columns.now }
+    requires names { names ≡ output_names (selection query.now.items) columns.now }
     requires accepted { refusal_of query.now tables.now ≡ None }
     ensures checked { IfOk result (IsChecked query.now tables.now) }
     ensures typed { IfOk result (IsTypedQuery (from_types query.now tables.now)) }
@@ -86,7 +84,7 @@ fn analysed(
     right: &[FromColumn],
 ) -> Result<Checked, Refusal>
     requires analysable { IsAnalysable query.now }
-    requires columns { columns.now ≡ from_columns query.now tables.now }
+    requires columns { columns.now ≡ from_columns (query_tree query.now) tables.now }
     requires left { left.now ≡ table_columns tables.now query.now.from }
     requires right { right.now ≡ join_columns tables.now query.now.join }
     ensures checked { IfOk result (IsChecked query.now tables.now) }

@@ -34,7 +34,6 @@ pub fn boxed_cond(alloc: Global, cond: Cond) -> Result<Box<Cond>, Memory>
     }
 }
 
-/// Whether arithmetic of two types gives a UInt64.
 fn results_in_uint(op: ArithOp, a: bool, b: bool) -> bool
     ensures { result ≡ gives_uint op a b }
 {
@@ -116,7 +115,6 @@ fn push_quoted(text: &mut Vec<u8>, byte: u8) -> Result<(), Memory>
     Ok(())
 }
 
-/// A text in quotes.
 fn quoted_text(alloc: Global, bytes: &[u8]) -> Result<Vec<u8>, Memory>
     ensures { IfOk result (λ text. text.items ≡ quoted bytes.now) }
 {

@@ -24,7 +24,6 @@ impl Model for FromColumn {
 }
 
 impl FromColumn {
-    /// A declared column of the table.
     fn declared(alloc: Global, table: &[u8], column: &ColumnDecl) -> Result<Self, Memory>
         ensures { IfOk result (λ c. c ≡ declared_column table.now column.now) }
     {
@@ -35,7 +34,6 @@ impl FromColumn {
         })
     }
 
-    /// Whether the name means this column.
     pub(crate) fn is_meant(&self, c: &ColumnRef) -> bool
         ensures { result ≡ means c.now self.now }
     {
@@ -48,7 +46,6 @@ impl FromColumn {
         self.kind
     }
 
-    /// A copy of its own name.
     pub(crate) fn name(&self) -> Result<Bytes, Memory>
         ensures { IfOk result (λ name. name ≡ self.now.name) }
     {
@@ -121,7 +118,6 @@ fn push_table(
     }
 }
 
-/// The columns of the FROM table.
 pub(crate) fn table_columns_of(
     alloc: Global,
     table: &TableRef,
@@ -134,7 +130,6 @@ pub(crate) fn table_columns_of(
     Ok(columns)
 }
 
-/// Adds the columns of the JOIN table.
 pub(crate) fn push_joined(
     alloc: Global,
     columns: &mut Vec<FromColumn>,

@@ -1,7 +1,7 @@
 // Grouping: what may not stand in a grouped query, and the checked grouping of one that may.
 ghost use Rattle.std.specs.Prelude.{◌≡◌, ◌+◌, ◌++◌, ◌≤◌, cond, filter, find, flat_map, length, map, not, option_map, IfOk, OnOk};
 ghost use Rattle.std.specs.List.{All, list_any};
-ghost use Rattle.query_model.specs.Names.{written as written_name, first_name, is_grouped as has_groups, listed, not_keys, item_what, cond_form, IsPick, ArePicks, IsGrouping, item_calls, bare_names, ungrouped_in_items as items_ungrouped, is_call_item, AreAdded, CanBePicked, is_key_of, key_place, first_ungrouped, not_grouped as holds_ungrouped};
+ghost use Rattle.query_model.specs.Names.{written as written_name, first_name, is_grouped as has_groups, listed, not_keys, item_tree, item_what, query_tree, cond_form, IsPick, ArePicks, IsGrouping, item_calls, bare_names, ungrouped_in_items as items_ungrouped, is_call_item, AreAdded, CanBePicked, is_key_of, key_place, first_ungrouped, not_grouped as holds_ungrouped};
 
 use crate::analysis::columns::FromColumn;
 use crate::analysis::names::{
@@ -24,7 +24,7 @@ pub(crate) fn added(a: usize, b: usize) -> Result<usize, Memory>
 }
 
 fn is_call(item: &Item) -> bool
-    ensures { result ≡ is_call_item item.now }
+    ensures { result ≡ is_call_item (item_tree item.now) }
 {
     match &item.what {
         ItemKind::Plain(_) => false,
@@ -32,16 +32,16 @@ fn is_call(item: &Item) -> bool
     }
 }
 
-/// 1 where the item is a call, and else 0.
 fn count_call(item: &Item) -> usize
-    ensures { result ≡ cond (is_call_item item.now) 1 0 }
+    ensures { result ≡ cond (is_call_item (item_tree item.now)) 1 0 }
 {
     if is_call(item) { 1 } else { 0 }
 }
 
 /// The number of items that are calls. More than a `usize` counts are a want of memory.
 pub(crate) fn count_item_calls(items: &[Item]) -> Result<usize, Memory>
-    ensures { IfOk result (λ count. count ≡ length (filter is_call_item items.now)) }
+    ensures { IfOk result
+        (λ count. count ≡ length (filter is_call_item (map item_tree items.now))) }
 {
     let mut count = 0;
     for item in items {
@@ -51,14 +51,14 @@ pub(crate) fn count_item_calls(items: &[Item]) -> Result<usize, Memory>
 }
 
 fn has_call(items: &[Item]) -> bool
-    ensures { result ≡ list_any is_call_item items.now }
+    ensures { result ≡ list_any (λ (i : Item). is_call_item (item_tree i)) items.now }
 {
     items.iter().any(|item| is_call(item))
 }
 
-/// Whether the query has GROUP BY, HAVING or a call.
+#[tactic(auto, using(crate::proofs::Accepted::any_listed))]
 pub(crate) fn is_grouped(query: &Query) -> bool
-    ensures { result ≡ has_groups query.now }
+    ensures { result ≡ has_groups (query_tree query.now) }
 {
     query.keys.len() != 0 || query.having.is_some() || has_call(listed_items(&query.items))
 }
@@ -81,12 +81,11 @@ fn push_item_ungrouped(
                 push_name(c, names)
             }
         }
-        ItemKind::Plain(ExprOf::Number(_)) => Ok(()),
         ItemKind::Plain(ExprOf::Arith(_, a, b)) => {
             push_expr_names(a, names)?;
             push_expr_names(b, names)
         }
-        ItemKind::Agg(_) => Ok(()),
+        ItemKind::Plain(ExprOf::Number(_)) | ItemKind::Agg(_) => Ok(()),
     }
 }
 
@@ -97,7 +96,8 @@ fn push_ungrouped(
     names: &mut Vec<ColumnRef>,
 ) -> Result<(), Memory>
     ensures { OnOk result
-        (names.new.items ≡ names.old.items ++ items_ungrouped columns.now keys.now items.now) }
+        (names.new.items ≡ names.old.items
+        ++ items_ungrouped columns.now keys.now (map item_tree items.now)) }
 {
     for item in items {
         push_item_ungrouped(item, columns, keys, names)?;
@@ -105,7 +105,6 @@ fn push_ungrouped(
     Ok(())
 }
 
-/// The first of the names, as it is written.
 fn first_written(names: &[ColumnRef]) -> Result<Option<Bytes>, Memory>
     ensures { IfOk result (λ name. name ≡ first_name (map written_name names.now)) }
 {
@@ -122,14 +121,14 @@ fn ungrouped_in_items(
     keys: &[ColumnRef],
 ) -> Result<Option<Bytes>, Memory>
     ensures { IfOk result (λ name. name
-        ≡ first_name (map written_name (items_ungrouped columns.now keys.now items.now))) }
+        ≡ first_name (map written_name
+        (items_ungrouped columns.now keys.now (map item_tree items.now)))) }
 {
     let mut names = Vec::new(alloc);
     push_ungrouped(items, columns, keys, &mut names)?;
     first_written(&names)
 }
 
-/// The first of the names that is no key, as it is written.
 fn first_not_key(
     names: &[ColumnRef],
     columns: &[FromColumn],
@@ -159,13 +158,12 @@ fn ungrouped_in_having(
     first_not_key(&names, columns, keys)
 }
 
-/// The first name that may not stand in a grouped query.
 fn ungrouped_name(
     alloc: Global,
     query: &Query,
     columns: &[FromColumn],
 ) -> Result<Option<Bytes>, Memory>
-    ensures { IfOk result (λ name. name ≡ first_ungrouped columns.now query.now) }
+    ensures { IfOk result (λ name. name ≡ first_ungrouped columns.now (query_tree query.now)) }
 {
     let keys = query.keys.as_slice();
     match &query.items {
@@ -186,7 +184,8 @@ pub(crate) fn not_grouped(
     query: &Query,
     columns: &[FromColumn],
 ) -> Result<Option<Refusal>, Memory>
-    ensures { IfOk result (λ refusal. refusal ≡ holds_ungrouped columns.now query.now) }
+    ensures { IfOk result
+        (λ refusal. refusal ≡ holds_ungrouped columns.now (query_tree query.now)) }
 {
     if !is_grouped(query) {
         return Ok(None);
@@ -215,8 +214,7 @@ fn pick_item(
 {
     match &item.what {
         ItemKind::Plain(ExprOf::Column(c)) => Ok(key_column(c, columns, keys)),
-        ItemKind::Plain(ExprOf::Number(_)) => unreachable!(),
-        ItemKind::Plain(ExprOf::Arith(_, _, _)) => unreachable!(),
+        ItemKind::Plain(ExprOf::Number(_) | ExprOf::Arith(_, _, _)) => unreachable!(),
         ItemKind::Agg(call) => add_call(alloc, call, columns, keys.len(), calls),
     }
 }
@@ -244,7 +242,6 @@ fn pick_items(
     Ok(List::from_vec(picks))
 }
 
-/// The groups of a query that nothing refuses.
 pub(crate) fn made_groups(
     alloc: Global,
     query: &Query,

@@ -88,7 +88,6 @@ fn place_pairs(
     Ok(List::from_vec(placed))
 }
 
-/// The join with places in its two tables.
 pub(crate) fn place_join(
     alloc: Global,
     join: &Option<Join>,

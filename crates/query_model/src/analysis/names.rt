@@ -1,7 +1,7 @@
 // Names of tables and columns.
-ghost use Rattle.std.specs.Prelude.{◌≡◌, ◌++◌, ◌∷◌, [], IfOk, OnOk, bytes_eq, length, flat_map, option_map};
+ghost use Rattle.std.specs.Prelude.{◌≡◌, ◌++◌, ◌∷◌, [], IfOk, OnOk, bytes_eq, length, flat_map, map, option_map};
 ghost use Rattle.std.specs.List.{list_any};
-ghost use Rattle.query_model.specs.Names.{NamePair as Pair, meant, meant_type as type_meant, written as written_name, expr_columns, argument_columns, argument_form, cond_form, formula, operand_form, sides_in, sides_of, item_columns, item_what, join_pairs, text_columns, listed, same_column as are_one_column, columns_in, is_key_of, key_place as place_of_key, place_in, unknown_column as unknown_among, ambiguous_column as ambiguous_among};
+ghost use Rattle.query_model.specs.Names.{NamePair as Pair, meant, meant_type as type_meant, written as written_name, expr_columns, argument_columns, argument_form, cond_form, formula, operand_form, sides_in, sides_of, item_columns, ItemTree, item_tree, item_what, items_in, query_tree, selection, join_pairs, text_columns, listed, same_column as are_one_column, columns_in, is_key_of, key_place as place_of_key, place_in, unknown_column as unknown_among, ambiguous_column as ambiguous_among};
 
 use crate::analysis::columns::FromColumn;
 use crate::query::{
@@ -11,14 +11,12 @@ use crate::query::{
 use chunk_data::{Bytes, ColumnType, List, Memory};
 use std::alloc::Global;
 
-/// Whether there is a table of this name.
 pub(crate) fn has_schema(name: &[u8], tables: &[Schema]) -> bool
     ensures { result ≡ list_any (λ (s : Schema). bytes_eq s.name name.now) tables.now }
 {
     tables.iter().any(|schema| schema.name.as_slice() == name)
 }
 
-/// The type of the first column that the name means.
 pub(crate) fn meant_type(c: &ColumnRef, columns: &[FromColumn]) -> Option<ColumnType>
     ensures { result ≡ type_meant columns.now c.now }
 {
@@ -48,7 +46,6 @@ fn same_column(a: &ColumnRef, b: &ColumnRef, columns: &[FromColumn]) -> bool
         .any(|column| column.is_meant(a) && column.is_meant(b))
 }
 
-/// Whether the name means one of the keys.
 pub(crate) fn is_key(c: &ColumnRef, keys: &[ColumnRef], columns: &[FromColumn]) -> bool
     ensures { result ≡ is_key_of columns.now keys.now c.now }
 {
@@ -88,7 +85,6 @@ pub(crate) fn written(c: &ColumnRef) -> Result<Bytes, Memory>
     }
 }
 
-/// The first name that means no column.
 pub(crate) fn unknown_column(
     names: &[ColumnRef],
     columns: &[FromColumn],
@@ -101,7 +97,6 @@ pub(crate) fn unknown_column(
     }
 }
 
-/// The first name that means more than one column.
 pub(crate) fn ambiguous_column(
     names: &[ColumnRef],
     columns: &[FromColumn],
@@ -123,7 +118,6 @@ fn table_copy(table: &Option<Bytes>) -> Result<Option<Bytes>, Memory>
     }
 }
 
-/// Adds a name.
 pub(crate) fn push_name(c: &ColumnRef, names: &mut Vec<ColumnRef>) -> Result<(), Memory>
     ensures { OnOk result (names.new.items ≡ names.old.items ++ c.now ∷ []) }
 {
@@ -133,7 +127,6 @@ pub(crate) fn push_name(c: &ColumnRef, names: &mut Vec<ColumnRef>) -> Result<(),
     Ok(())
 }
 
-/// Adds the names in an expression.
 #[tactic(auto, unfolding(crate::specs::Refusals::expr_columns))]
 pub(crate) fn push_expr_names(
     e: &ExprOf<ColumnRef>,
@@ -197,11 +190,7 @@ fn push_cond_names(
             push_operand_names(in_calls, a, names)?;
             push_operand_names(in_calls, b, names)
         }
-        CondOf::And(a, b) => {
-            push_cond_names(in_calls, a, names)?;
-            push_cond_names(in_calls, b, names)
-        }
-        CondOf::Or(a, b) => {
+        CondOf::And(a, b) | CondOf::Or(a, b) => {
             push_cond_names(in_calls, a, names)?;
             push_cond_names(in_calls, b, names)
         }
@@ -209,7 +198,6 @@ fn push_cond_names(
     }
 }
 
-/// Adds the names in a condition, if there is one.
 pub(crate) fn push_filter_names(
     in_calls: bool,
     filter: &Option<CondOf<ColumnRef>>,
@@ -237,7 +225,8 @@ fn push_item_names(item: &Item, names: &mut Vec<ColumnRef>) -> Result<(), Memory
 
 /// The items that are listed; `*` lists none.
 pub(crate) fn listed_items(items: &Items) -> &[Item]
-    ensures { result.now ≡ listed items.now }
+    ensures listed { result.now ≡ listed items.now }
+    ensures trees { map item_tree result.now ≡ items_in (selection items.now) }
 {
     match items {
         Items::Star => &[],
@@ -247,7 +236,8 @@ pub(crate) fn listed_items(items: &Items) -> &[Item]
 
 fn push_all_items(items: &[Item], names: &mut Vec<ColumnRef>) -> Result<(), Memory>
     ensures { OnOk result (names.new.items
-        ≡ names.old.items ++ flat_map (λ (i : Item). item_columns (item_what i.what)) items.now) }
+        ≡ names.old.items
+        ++ flat_map (λ (i : ItemTree). item_columns i.what) (map item_tree items.now)) }
 {
     for item in items {
         push_item_names(item, names)?;
@@ -287,7 +277,7 @@ fn push_key_names(keys: &[ColumnRef], names: &mut Vec<ColumnRef>) -> Result<(), 
 
 /// The names of columns that stand in the query, in the text's order.
 pub(crate) fn names_in(alloc: Global, query: &Query) -> Result<List<ColumnRef>, Memory>
-    ensures { IfOk result (λ names. names ≡ text_columns query.now) }
+    ensures { IfOk result (λ names. names ≡ text_columns (query_tree query.now)) }
 {
     let mut names = Vec::new(alloc);
     push_all_items(listed_items(&query.items), &mut names)?;

@@ -1,14 +1,13 @@
 // What expressions are, and whether types fit.
 ghost use Rattle.std.specs.Prelude.{◌≡◌, option_map};
 ghost use Rattle.std.specs.List.{list_all};
-ghost use Rattle.query_model.specs.Names.{number_of, arith_typing as typing_of_arith, known_typing as typing_known, expr_typing as typing_of_expr, call_typing as typing_of_call, agg_typing as typing_of_agg, operand_typing as typing_of_operand, item_typing as typing_of_item, comparable as are_comparable, cond_fits as fits, fits_where, is_typed as has_type, listed, argument_form, as_typing, cond_form, formula, item_what, operand_form, types_fit as all_types_fit};
+ghost use Rattle.query_model.specs.Names.{number_of, arith_typing as typing_of_arith, known_typing as typing_known, expr_typing as typing_of_expr, call_typing as typing_of_call, agg_typing as typing_of_agg, operand_typing as typing_of_operand, item_typing as typing_of_item, comparable as are_comparable, cond_fits as fits, fits_where, is_typed as has_type, argument_form, as_typing, cond_form, formula, item_what, query_tree, operand_form, types_fit as all_types_fit};
 
 use crate::analysis::columns::FromColumn;
-use crate::analysis::names::meant_type;
+use crate::analysis::names::{listed_items, meant_type};
 use crate::plain::{arith_type, can_hold};
 use crate::query::{
-    AggCall, AggOp, ArithOp, ColumnRef, CondOf, ExprOf, Item, ItemKind, Items, Number, Operand,
-    Query,
+    AggCall, AggOp, ArithOp, ColumnRef, CondOf, ExprOf, Item, ItemKind, Number, Operand, Query,
 };
 use chunk_data::ColumnType;
 
@@ -20,7 +19,6 @@ pub(crate) enum ExprTyping {
     Unfit,
 }
 
-/// What arithmetic is of two operands with types.
 fn typed_arith(op: ArithOp, s: ColumnType, t: ColumnType) -> ExprTyping
     ensures { as_typing result
         ≡ typing_of_arith op (as_typing (ExprTyping.Typed s)) (as_typing (ExprTyping.Typed t)) }
@@ -32,7 +30,6 @@ fn typed_arith(op: ArithOp, s: ColumnType, t: ColumnType) -> ExprTyping
     }
 }
 
-/// What arithmetic is of an operand with a type and a plain number.
 fn arith_beside(op: ArithOp, t: ColumnType, n: Number) -> ExprTyping
     ensures { as_typing result
         ≡ typing_of_arith op (as_typing (ExprTyping.Typed t)) (as_typing (ExprTyping.Plain n)) }
@@ -55,8 +52,7 @@ fn arith_typing(op: ArithOp, a: ExprTyping, b: ExprTyping) -> ExprTyping
         },
         ExprTyping::Plain(n) => match b {
             ExprTyping::Typed(t) => arith_beside(op, t, n),
-            ExprTyping::Plain(_) => ExprTyping::Unfit,
-            ExprTyping::Unfit => ExprTyping::Unfit,
+            ExprTyping::Plain(_) | ExprTyping::Unfit => ExprTyping::Unfit,
         },
         ExprTyping::Unfit => ExprTyping::Unfit,
     }
@@ -71,7 +67,6 @@ fn known_typing(kind: Option<ColumnType>) -> ExprTyping
     }
 }
 
-/// What the expression is over From.
 #[tactic(auto, unfolding(crate::specs::Refusals::expr_typing))]
 pub(crate) fn expr_typing(e: &ExprOf<ColumnRef>, columns: &[FromColumn]) -> ExprTyping
     ensures { as_typing result ≡ typing_of_expr columns.now (formula e.now) }
@@ -87,7 +82,6 @@ pub(crate) fn expr_typing(e: &ExprOf<ColumnRef>, columns: &[FromColumn]) -> Expr
     }
 }
 
-/// What a call is of an argument of a kind.
 fn call_typing(op: AggOp, argument: ExprTyping) -> ExprTyping
     ensures { as_typing result ≡ typing_of_call op (as_typing argument) }
 {
@@ -95,11 +89,9 @@ fn call_typing(op: AggOp, argument: ExprTyping) -> ExprTyping
         AggOp::Count => ExprTyping::Typed(ColumnType::UInt64),
         AggOp::Sum => match argument {
             ExprTyping::Typed(t) => summed_typing(t),
-            ExprTyping::Plain(_) => ExprTyping::Unfit,
-            ExprTyping::Unfit => ExprTyping::Unfit,
+            ExprTyping::Plain(_) | ExprTyping::Unfit => ExprTyping::Unfit,
         },
-        AggOp::Min => typed_or_unfit(argument),
-        AggOp::Max => typed_or_unfit(argument),
+        AggOp::Min | AggOp::Max => typed_or_unfit(argument),
     }
 }
 
@@ -119,8 +111,7 @@ fn typed_or_unfit(kind: ExprTyping) -> ExprTyping
 {
     match kind {
         ExprTyping::Typed(t) => ExprTyping::Typed(t),
-        ExprTyping::Plain(_) => ExprTyping::Unfit,
-        ExprTyping::Unfit => ExprTyping::Unfit,
+        ExprTyping::Plain(_) | ExprTyping::Unfit => ExprTyping::Unfit,
     }
 }
 
@@ -163,7 +154,6 @@ fn comparable(a: ExprTyping, b: ExprTyping) -> bool
     }
 }
 
-/// Whether the types fit in each comparison of the condition.
 #[tactic(auto, unfolding(crate::specs::Refusals::cond_fits))]
 fn cond_fits(cond: &CondOf<ColumnRef>, columns: &[FromColumn]) -> bool
     ensures { result ≡ fits columns.now (cond_form cond.now) }
@@ -174,8 +164,7 @@ fn cond_fits(cond: &CondOf<ColumnRef>, columns: &[FromColumn]) -> bool
             let right = operand_typing(b, columns);
             comparable(left, right)
         }
-        CondOf::And(a, b) => cond_fits(a, columns) && cond_fits(b, columns),
-        CondOf::Or(a, b) => cond_fits(a, columns) && cond_fits(b, columns),
+        CondOf::And(a, b) | CondOf::Or(a, b) => cond_fits(a, columns) && cond_fits(b, columns),
         CondOf::Not(a) => cond_fits(a, columns),
     }
 }
@@ -195,7 +184,6 @@ fn is_typed(kind: ExprTyping) -> bool
     matches!(kind, ExprTyping::Typed(_))
 }
 
-/// What the item is.
 pub(crate) fn item_typing(item: &Item, columns: &[FromColumn]) -> ExprTyping
     ensures { as_typing result ≡ typing_of_item columns.now (item_what item.now.what) }
 {
@@ -211,18 +199,7 @@ fn item_fits(item: &Item, columns: &[FromColumn]) -> bool
     is_typed(item_typing(item, columns))
 }
 
-fn items_fit(items: &Items, columns: &[FromColumn]) -> bool
-    ensures { result
-        ≡ list_all (λ (i : Item). has_type (typing_of_item columns.now (item_what i.what)))
-        (listed items.now) }
-{
-    match items {
-        Items::Star => true,
-        Items::Listed(items) => list_fits(items.as_slice(), columns),
-    }
-}
-
-fn list_fits(items: &[Item], columns: &[FromColumn]) -> bool
+fn items_fit(items: &[Item], columns: &[FromColumn]) -> bool
     ensures { result
         ≡ list_all (λ (i : Item). has_type (typing_of_item columns.now (item_what i.what)))
         items.now }
@@ -230,11 +207,11 @@ fn list_fits(items: &[Item], columns: &[FromColumn]) -> bool
     items.iter().all(|item| item_fits(item, columns))
 }
 
-/// Whether the types fit in items, WHERE and HAVING.
+#[tactic(auto, using(crate::proofs::Accepted::all_listed))]
 pub(crate) fn types_fit(query: &Query, columns: &[FromColumn]) -> bool
-    ensures { result ≡ all_types_fit columns.now query.now }
+    ensures { result ≡ all_types_fit columns.now (query_tree query.now) }
 {
-    items_fit(&query.items, columns)
+    items_fit(listed_items(&query.items), columns)
         && filter_fits(&query.filter, columns)
         && filter_fits(&query.having, columns)
 }

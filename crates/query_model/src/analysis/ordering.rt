@@ -57,7 +57,6 @@ fn place_key(key: &OrderKey, names: &[Bytes]) -> Result<SortKey, Memory>
     }
 }
 
-/// The places of the keys.
 pub(crate) fn place_order(
     alloc: Global,
     order: &[OrderKey],

@@ -1,7 +1,7 @@
 // The outputs of a query: their names and types, and what is made of rows.
 ghost use Rattle.std.specs.Prelude.{◌≡◌, ◌++◌, ◌≤◌, codes, decimal, length, map, true, false, IfOk};
 ghost use Rattle.std.specs.List.{All};
-ghost use Rattle.query_model.specs.Names.{FromColumn as Column, plain_name as name_of_kind, name_or, item_names as names_of_items, output_names, item_typing as typing_of_item, is_grouped as has_groups, item_what, listed, AreColumnsFrom, ArePlainItems, IsShape, output_types, known_type as type_known, types_of, place_in, as_typing, is_key_of, CanBePicked, HasNoCall};
+ghost use Rattle.query_model.specs.Names.{FromColumn as Column, plain_name as name_of_kind, name_or, item_names as names_of_items, output_names, item_typing as typing_of_item, is_grouped as has_groups, ItemTree, item_tree, item_what, query_tree, selection, listed, AreColumnsFrom, ArePlainItems, IsShape, output_types, known_type as type_known, types_of, place_in, as_typing, is_key_of, CanBePicked, HasNoCall};
 
 use crate::analysis::columns::FromColumn;
 use crate::analysis::groups::{is_grouped, made_groups};
@@ -51,7 +51,7 @@ fn item_name(alloc: Global, item: &Item, k: usize) -> Result<Bytes, Memory>
 }
 
 fn item_names(alloc: Global, items: &[Item]) -> Result<List<Bytes>, Memory>
-    ensures { IfOk result (λ names. names ≡ names_of_items 1 items.now) }
+    ensures { IfOk result (λ names. names ≡ names_of_items 1 (map item_tree items.now)) }
 {
     let mut names = Vec::with_capacity(alloc, items.len())?;
     for item in items {
@@ -81,7 +81,7 @@ pub(crate) fn names_of(
     items: &Items,
     columns: &[FromColumn],
 ) -> Result<List<Bytes>, Memory>
-    ensures { IfOk result (λ names. names ≡ output_names items.now columns.now) }
+    ensures { IfOk result (λ names. names ≡ output_names (selection items.now) columns.now) }
 {
     match items {
         Items::Star => column_names(alloc, columns),
@@ -112,8 +112,8 @@ fn item_types(
     columns: &[FromColumn],
 ) -> Result<List<ColumnType>, Memory>
     ensures { IfOk result (λ types. types
-        ≡ map (λ (i : Item). type_known (typing_of_item columns.now (item_what i.what)))
-        items.now) }
+        ≡ map (λ (i : ItemTree). type_known (typing_of_item columns.now i.what))
+        (map item_tree items.now)) }
 {
     let mut types = Vec::with_capacity(alloc, items.len())?;
     for item in items {
@@ -149,7 +149,7 @@ pub(crate) fn types_of_items(
     items: &Items,
     columns: &[FromColumn],
 ) -> Result<List<ColumnType>, Memory>
-    ensures { IfOk result (λ types. types ≡ output_types items.now columns.now) }
+    ensures { IfOk result (λ types. types ≡ output_types (selection items.now) columns.now) }
 {
     match items {
         Items::Star => column_types(alloc, columns),
@@ -177,11 +177,11 @@ pub(crate) fn made_shape(
 ) -> Result<Shape, Memory>
     requires few { length columns.now ≤ 64 }
     requires few_keys { length query.now.keys ≤ 64 }
-    requires plain { has_groups query.now ≡ false
+    requires plain { has_groups (query_tree query.now) ≡ false
         → All (λ (i : Item). HasNoCall i.what) (listed query.now.items) }
-    requires grouped { has_groups query.now ≡ true → All (λ (i : Item). CanBePicked
+    requires grouped { has_groups (query_tree query.now) ≡ true → All (λ (i : Item). CanBePicked
         (is_key_of columns.now query.now.keys) i.what) (listed query.now.items) }
-    ensures { IfOk result (IsShape query.now columns.now (has_groups query.now)) }
+    ensures { IfOk result (IsShape query.now columns.now (has_groups (query_tree query.now))) }
 {
     if is_grouped(query) {
         Ok(Shape::Grouped(made_groups(alloc, query, columns)?))

@@ -1,6 +1,5 @@
 // Places in the place of names.
-ghost use Rattle.std.specs.Prelude.{◌≡◌, ◌+◌, ◌≤◌, ◌∷◌, [], bytes_eq, flat_map, length, map, IfOk, OnOk};
-ghost use Rattle.std.specs.List.{All};
+ghost use Rattle.std.specs.Prelude.{◌≡◌, ◌+◌, ◌≤◌, ◌∷◌, [], bytes_eq, flat_map, length, map, IfOk, OnOk, All};
 ghost use Rattle.query_model.specs.Names.{cond_operands, operands_of, IsPlaced, IsPlacedCall, IsGroupedOperand, IsPlacedCond, IsPlacedItem, BothOrNone, EachWith, calls_of, place_of, use_of, key_place as place_of_key, place_in, place_by, AreAdded, HasNoCall};
 ghost use Rattle.query_model.specs.declared.query.CondOf.TheVariants as condition;
 
@@ -45,7 +44,6 @@ pub(crate) fn table_use(table: &TableRef, tables: &[Schema]) -> Result<TableUse,
     }
 }
 
-/// The place of a column of From.
 pub(crate) fn column_place(c: &ColumnRef, columns: &[FromColumn]) -> u32
     requires { length columns.now ≤ 64 }
     ensures { result ≡ place_in columns.now c.now }
@@ -53,7 +51,6 @@ pub(crate) fn column_place(c: &ColumnRef, columns: &[FromColumn]) -> u32
     meant_place(c, columns) as u32
 }
 
-/// The place of a key in a row of groups.
 pub(crate) fn key_column(c: &ColumnRef, columns: &[FromColumn], keys: &[ColumnRef]) -> u32
     requires { length keys.now ≤ 64 }
     ensures { result ≡ place_of_key columns.now keys.now c.now }
@@ -72,7 +69,6 @@ fn name_place(scope: Scope, c: &ColumnRef, columns: &[FromColumn], keys: &[Colum
     }
 }
 
-/// The expression with the places of its columns.
 pub(crate) fn place_expr(
     alloc: Global,
     scope: Scope,
@@ -104,10 +100,7 @@ fn place_argument(
     ensures { IfOk result (BothOrNone (IsPlaced (place_in columns.now)) argument.now) }
 {
     match argument {
-        Some(e) => {
-            let placed = place_expr(alloc, Scope::Rows, e, columns, &[])?;
-            Ok(Some(placed))
-        }
+        Some(e) => Ok(Some(place_expr(alloc, Scope::Rows, e, columns, &[])?)),
         None => Ok(None),
     }
 }
@@ -172,10 +165,7 @@ fn place_operand(
         (AreAdded columns.now (calls_of operand.now) calls.old.items calls.new.items) }
 {
     match operand {
-        Operand::Plain(e) => {
-            let placed = place_expr(alloc, scope, e, columns, keys)?;
-            Ok(Operand::Plain(placed))
-        }
+        Operand::Plain(e) => Ok(Operand::Plain(place_expr(alloc, scope, e, columns, keys)?)),
         Operand::Text(bytes) => Ok(Operand::Text(bytes.copy()?)),
         Operand::Agg(call) => {
             let place = add_call(alloc, call, columns, keys.len(), calls)?;
@@ -252,7 +242,6 @@ fn place_cond(
     }
 }
 
-/// WHERE or HAVING with places.
 pub(crate) fn place_filter(
     alloc: Global,
     scope: Scope,
@@ -269,10 +258,7 @@ pub(crate) fn place_filter(
         calls.old.items calls.new.items) }
 {
     match filter {
-        Some(cond) => {
-            let placed = place_cond(alloc, scope, cond, columns, keys, calls)?;
-            Ok(Some(placed))
-        }
+        Some(cond) => Ok(Some(place_cond(alloc, scope, cond, columns, keys, calls)?)),
         None => Ok(None),
     }
 }
@@ -288,7 +274,6 @@ fn place_item(alloc: Global, item: &Item, columns: &[FromColumn]) -> Result<Expr
     }
 }
 
-/// The items with the places of their columns.
 pub(crate) fn place_items(
     alloc: Global,
     items: &[Item],
@@ -300,8 +285,7 @@ pub(crate) fn place_items(
 {
     let mut placed = Vec::with_capacity(alloc, items.len())?;
     for item in items {
-        let expr = place_item(alloc, item, columns)?;
-        placed.push(expr)?;
+        placed.push(place_item(alloc, item, columns)?)?;
     }
     Ok(List::from_vec(placed))
 }

@@ -1,6 +1,6 @@
 // Why a query is refused: each condition over the whole query, and the first that it meets.
 ghost use Rattle.std.specs.Prelude.{◌≡◌, ◌∷◌, [], length, map, option_map, IfOk};
-ghost use Rattle.query_model.specs.Names.{unknown_table as table_refusal, unknown_column as unknown_among, ambiguous_column as ambiguous_among, bad_join_key as pair_refusal, type_mismatch as type_refusal, not_grouped as group_refusal, bad_order_key as order_refusal, too_wide as width_refusal, refusals, calls_in, cond_form, operand_calls, operand_form, sides_in, sides_of, total, join_pairs, output_names, query_tables, text_columns, first_of_all};
+ghost use Rattle.query_model.specs.Names.{unknown_table as table_refusal, too_wide as width_refusal, refusals, calls_in, cond_form, operand_calls, operand_form, sides_in, sides_of, total, join_pairs, output_names, query_tables, query_tree, selection, first_of_all};
 
 use crate::analysis::columns::FromColumn;
 use crate::analysis::groups::{added, count_item_calls, not_grouped};
@@ -25,17 +25,16 @@ fn undeclared(table: &TableRef, tables: &[Schema]) -> Result<Option<Refusal>, Me
             if has_schema(name.as_slice(), tables) {
                 Ok(None)
             } else {
-                let carried = name.copy()?;
-                Ok(Some(Refusal::UnknownTable(carried)))
+                Ok(Some(Refusal::UnknownTable(name.copy()?)))
             }
         }
         TableRef::Numbers(_) => Ok(None),
     }
 }
 
-/// FROM or JOIN names no declared table.
 fn unknown_table(query: &Query, tables: &[Schema]) -> Result<Option<Refusal>, Memory>
-    ensures { IfOk result (λ refusal. refusal ≡ table_refusal tables.now (query_tables query.now)) }
+    ensures { IfOk result (λ refusal. refusal
+        ≡ table_refusal tables.now (query_tables (query_tree query.now))) }
 {
     match undeclared(&query.from, tables)? {
         Some(refusal) => Ok(Some(refusal)),
@@ -50,8 +49,7 @@ fn count_operand_calls(operand: &Operand<ColumnRef>) -> usize
     ensures { result ≡ operand_calls (operand_form operand.now) }
 {
     match operand {
-        Operand::Plain(_) => 0,
-        Operand::Text(_) => 0,
+        Operand::Plain(_) | Operand::Text(_) => 0,
         Operand::Agg(_) => 1,
     }
 }
@@ -63,18 +61,7 @@ fn count_cond_calls(cond: &CondOf<ColumnRef>) -> Result<usize, Memory>
 {
     match cond {
         CondOf::Compare(_, a, b) => added(count_operand_calls(a), count_operand_calls(b)),
-        CondOf::And(a, b) => {
-            let left = count_cond_calls(a)?;
-            let right = count_cond_calls(b)?;
-            let calls = added(left, right)?;
-            Ok(calls)
-        }
-        CondOf::Or(a, b) => {
-            let left = count_cond_calls(a)?;
-            let right = count_cond_calls(b)?;
-            let calls = added(left, right)?;
-            Ok(calls)
-        }
+        CondOf::And(a, b) | CondOf::Or(a, b) => added(count_cond_calls(a)?, count_cond_calls(b)?),
         CondOf::Not(a) => count_cond_calls(a),
     }
 }
@@ -90,11 +77,10 @@ fn count_having_calls(having: &Option<CondOf<ColumnRef>>) -> Result<usize, Memor
 }
 
 fn count_calls(query: &Query) -> Result<usize, Memory>
-    ensures { IfOk result (λ count. count ≡ calls_in query.now) }
+    ensures { IfOk result (λ count. count ≡ calls_in (query_tree query.now)) }
 {
     let in_items = count_item_calls(listed_items(&query.items))?;
-    let in_having = count_having_calls(&query.having)?;
-    added(in_items, in_having)
+    added(in_items, count_having_calls(&query.having)?)
 }
 
 fn count_pairs(join: &Option<Join>) -> usize
@@ -108,7 +94,7 @@ fn count_pairs(join: &Option<Join>) -> usize
 
 /// There are too many columns of From, items, keys, pairs or calls.
 fn too_wide(query: &Query, columns: &[FromColumn]) -> Result<Option<Refusal>, Memory>
-    ensures { IfOk result (λ refusal. refusal ≡ width_refusal columns.now query.now) }
+    ensures { IfOk result (λ refusal. refusal ≡ width_refusal columns.now (query_tree query.now)) }
 {
     let calls = count_calls(query)?;
     if columns.len() > WIDEST
@@ -124,87 +110,6 @@ fn too_wide(query: &Query, columns: &[FromColumn]) -> Result<Option<Refusal>, Me
     }
 }
 
-/// The first condition on order or widths.
-fn order_or_width(
-    query: &Query,
-    columns: &[FromColumn],
-    names: &[Bytes],
-) -> Result<Option<Refusal>, Memory>
-    ensures { IfOk result (λ refusal. refusal ≡ first_of_all
-        (order_refusal names.now query.now.order ∷ width_refusal columns.now query.now ∷ [])) }
-{
-    match bad_order_key(query.order.as_slice(), names)? {
-        Some(refusal) => Ok(Some(refusal)),
-        None => too_wide(query, columns),
-    }
-}
-
-/// The first condition on groups, order or widths.
-fn groups_or_later(
-    alloc: Global,
-    query: &Query,
-    columns: &[FromColumn],
-    names: &[Bytes],
-) -> Result<Option<Refusal>, Memory>
-    ensures { IfOk result (λ refusal. refusal ≡ first_of_all (group_refusal columns.now query.now
-        ∷ order_refusal names.now query.now.order ∷ width_refusal columns.now query.now ∷ [])) }
-{
-    match not_grouped(alloc, query, columns)? {
-        Some(refusal) => Ok(Some(refusal)),
-        None => order_or_width(query, columns, names),
-    }
-}
-
-/// The first condition on types or what comes behind them.
-fn types_or_later(
-    alloc: Global,
-    query: &Query,
-    columns: &[FromColumn],
-    names: &[Bytes],
-) -> Result<Option<Refusal>, Memory>
-    ensures { IfOk result (λ refusal. refusal ≡ first_of_all (type_refusal columns.now query.now
-        ∷ group_refusal columns.now query.now ∷ order_refusal names.now query.now.order
-        ∷ width_refusal columns.now query.now ∷ [])) }
-{
-    if types_fit(query, columns) {
-        groups_or_later(alloc, query, columns, names)
-    } else {
-        Ok(Some(Refusal::TypeMismatch))
-    }
-}
-
-/// The first condition on names, pairs of ON or what comes behind them.
-fn names_or_later(
-    alloc: Global,
-    query: &Query,
-    columns: &[FromColumn],
-    left: &[FromColumn],
-    right: &[FromColumn],
-    names: &[Bytes],
-) -> Result<Option<Refusal>, Memory>
-    ensures { IfOk result (λ refusal. refusal ≡ first_of_all (
-        unknown_among columns.now (text_columns query.now)
-        ∷ ambiguous_among columns.now (text_columns query.now)
-        ∷ pair_refusal left.now right.now query.now.join
-        ∷ type_refusal columns.now query.now ∷ group_refusal columns.now query.now
-        ∷ order_refusal names.now query.now.order ∷ width_refusal columns.now query.now ∷ [])) }
-{
-    let used = names_in(alloc, query)?;
-    match unknown_column(used.as_slice(), columns)? {
-        Some(refusal) => return Ok(Some(refusal)),
-        None => {}
-    }
-    match ambiguous_column(used.as_slice(), columns)? {
-        Some(refusal) => return Ok(Some(refusal)),
-        None => {}
-    }
-    if pairs_fit(&query.join, left, right) {
-        types_or_later(alloc, query, columns, names)
-    } else {
-        Ok(Some(Refusal::BadJoinKey))
-    }
-}
-
 /// The first condition that the query meets. `names` are those of its outputs.
 pub(crate) fn first_refusal(
     alloc: Global,
@@ -215,12 +120,32 @@ pub(crate) fn first_refusal(
     right: &[FromColumn],
     names: &[Bytes],
 ) -> Result<Option<Refusal>, Memory>
-    requires { names.now ≡ output_names query.now.items columns.now }
+    requires { names.now ≡ output_names (selection query.now.items) columns.now }
     ensures { IfOk result (λ refusal. refusal
-        ≡ first_of_all (refusals tables.now columns.now left.now right.now query.now)) }
+        ≡ first_of_all (refusals tables.now columns.now left.now right.now
+        (query_tree query.now))) }
 {
-    match unknown_table(query, tables)? {
-        Some(refusal) => Ok(Some(refusal)),
-        None => names_or_later(alloc, query, columns, left, right, names),
+    if let Some(refusal) = unknown_table(query, tables)? {
+        return Ok(Some(refusal));
     }
+    let used = names_in(alloc, query)?;
+    if let Some(refusal) = unknown_column(used.as_slice(), columns)? {
+        return Ok(Some(refusal));
+    }
+    if let Some(refusal) = ambiguous_column(used.as_slice(), columns)? {
+        return Ok(Some(refusal));
+    }
+    if !pairs_fit(&query.join, left, right) {
+        return Ok(Some(Refusal::BadJoinKey));
+    }
+    if !types_fit(query, columns) {
+        return Ok(Some(Refusal::TypeMismatch));
+    }
+    if let Some(refusal) = not_grouped(alloc, query, columns)? {
+        return Ok(Some(refusal));
+    }
+    if let Some(refusal) = bad_order_key(query.order.as_slice(), names)? {
+        return Ok(Some(refusal));
+    }
+    too_wide(query, columns)
 }

@@ -1,4 +1,4 @@
-use Rattle.query_model.proofs.Imports.{BothOrNone, CheckedJoin, FromColumn, IsCheckedJoin, IsPlacedJoin, Join, List, None, Option, Query, Schema, Some, append-nil, refl, table_columns, ◌∙◌, ◌≡◌, join_columns}
+use Rattle.query_model.proofs.Imports.{arith, BothOrNone, CheckedJoin, FromColumn, IsCheckedJoin, IsPlacedJoin, Join, List, None, Option, Query, Schema, Some, append-nil, refl, table_columns, ◌∙◌, ◌≡◌, join_columns}
 use Rattle.query_model.proofs.Accepted.{unrefused_is_accepted, narrow, ungrouped_items, are_keys}
 use Rattle.query_model.proofs.TypedGroups.{checked_is_typed}
 use Rattle.query_model.proofs.analysis.checked_query.Goals as goal
@@ -37,9 +37,7 @@ pub made_shape-requires-clause-plain : goal.made_shape-requires-clause-plain
 made_shape-requires-clause-plain c = λ h. ungrouped_items c.args.query.now h
 
 pub made_shape-requires-clause-grouped : goal.made_shape-requires-clause-grouped
-made_shape-requires-clause-grouped c =
-    rw c.requires.columns (λ h. (are_keys c.args.query.now c.args.tables.now
-    (unrefused_is_accepted c.args.query.now c.args.tables.now c.requires.accepted) h).items)
+made_shape-requires-clause-grouped c = search (arith, are_keys, unrefused_is_accepted)
 
 pub returns-clause-checked : goal.returns-clause-checked
 returns-clause-checked c = record {

@@ -1,5 +1,4 @@
-use Rattle.query_model.proofs.Imports.{to_z-of_z, ◌∙◌, arith}
-use Rattle.chunk_data.specs.declared.typed_value.Value.TheVariants as value
+use Rattle.query_model.proofs.Imports.{to_z-of_z, arith}
 use Rattle.query_model.proofs.Wrapping.{wrapped-difference}
 use Rattle.query_model.proofs.arithmetic.sub_uint.Goals as goal
 

@@ -9,10 +9,11 @@ returns c =
     let in_items = flat_map (λ (i : Item). item_calls i.what) (listed q.items) in
     let in_having = flat_map calls_of (operands_of q.having) in
     let first =
-    rw (c.new-calls.ensures.items, c.listed_items.ensures) at c.in_ok-picks.ensures.added in
+    rw (c.new-calls.ensures.items, c.listed_items.ensures.listed) at c.in_ok-picks.ensures.added in
     let long = length_added columns in_items [] c.pick_items.new.calls.items first in
-    let picked = rw (c.new-calls.ensures.items, c.listed_items.ensures, c.as_slice-names.ensures) at
-    c.in_ok-picks.ensures.picked in
+    let picked =
+    rw (c.new-calls.ensures.items, c.listed_items.ensures.listed, c.as_slice-names.ensures)
+    at c.in_ok-picks.ensures.picked in
     let at : length q.keys + length c.pick_items.new.calls.items ≡ length q.keys + length in_items =
     omega (arith, long) in
     record {

@@ -1,4 +1,4 @@
-use Rattle.query_model.proofs.Imports.{◌∙◌, arith}
+use Rattle.query_model.proofs.Imports.{arith}
 use Rattle.query_model.proofs.PlaceLaws.{place_found, place_at_end}
 use Rattle.query_model.proofs.analysis.ordering.name_place.Goals as goal
 
