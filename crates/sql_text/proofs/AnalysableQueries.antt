@@ -4,9 +4,9 @@ use Rattle.sql_text.proofs.Imports.{◌≡◌, List, [], ◌∷◌, map, flat_ma
 use Rattle.query_model.specs.Formulas.{argument_form, call, call_form, column, cond_form, number, operand_form, plain, sides_in, sides_of, text}
 use Rattle.query_model.specs.Formulas.{arith as calculated}
 use Rattle.query_model.specs.Names.{cond_operands, listed, takes_argument, MayBeGroupOperand}
-use Rattle.query_model.specs.Trees.{call_item, listed as listed_items, plain_item, selection, star}
+use Rattle.query_model.specs.Trees.{call_item, items_in, plain_item, selection}
 use Rattle.query_model.specs.declared.query.Items.TheVariants as items
-use Rattle.query_model.proofs.SameTrees.{forms-are-sides}
+use Rattle.query_model.proofs.TypedQueries.{forms-are-sides}
 use Rattle.std.specs.Prelude.{⊤}
 use Rattle.sql_grammar.specs.declared.Sign.TheVariants as sign
 use Rattle.sql_grammar.specs.declared.Token.TheVariants as token
@@ -70,10 +70,6 @@ items_arguments : {is : List ItemTree} {ts rest : Tokens}
     → AreListed IsSelectItem (token.Sign sign.Comma) is ts rest → All IsItemTree is
 items_arguments (last_one i) = All-cons IsItemTree _ [] (item_argument i) (All-nil IsItemTree)
 items_arguments (one_more i is) = All-cons IsItemTree _ _ (item_argument i) (items_arguments is)
-
-abbrev items_in : Selection → List ItemTree
-items_in star = []
-items_in (listed_items is) = is
 
 record IsAnalysableTree (t : QueryTree) : Type 0 where
   items : All IsItemTree (items_in t.items)

@@ -1,5 +1,5 @@
 -- A spelling takes at least one token of what it begins with.
-use Rattle.sql_text.proofs.Imports.{◌<◌, List, ◌∷◌, length, arith, Clause, ColumnRef, Join, NamePair, OrderKey, TableRef, Expression, CallTree, QueryOperand, Condition, ItemWhat, ItemTree, Selection, Tokens, IsColumn, IsExpr, one_term, sum, difference, IsTerm, one_factor, product, IsFactor, a_column, a_number, negative, enclosed, IsAgg, call_over, IsOperand, an_expr, IsGroupOperand, a_key, a_call, IsCond, one_conj, disjunction, IsConj, one_neg, conjunction, IsNeg, negation, enclosed_cond, comparison, AreListed, last_one, one_more, IsWhat, an_expression, an_agg, IsSelectItem, IsSelection, IsTableRef, IsPair, equal_columns, IsJoined, table_on, IsOrderKey, Token}
+use Rattle.sql_text.proofs.Imports.{◌<◌, List, ◌∷◌, length, arith, Clause, ColumnRef, Join, NamePair, OrderKey, TableRef, Expression, CallTree, QueryOperand, CondForm, ItemWhat, ItemTree, Selection, Tokens, IsColumn, IsExpr, one_term, sum, difference, IsTerm, one_factor, product, IsFactor, a_column, a_number, negative, enclosed, IsAgg, call_over, IsOperand, an_expr, IsGroupOperand, a_key, a_call, IsCond, one_conj, disjunction, IsConj, one_neg, conjunction, IsNeg, negation, enclosed_cond, comparison, AreListed, last_one, one_more, IsWhat, an_expression, an_agg, IsSelectItem, IsSelection, IsTableRef, IsPair, equal_columns, IsJoined, table_on, IsOrderKey, Token}
 use Rattle.sql_text.specs.declared.term.Clause.TheVariants as clause
 use Rattle.sql_grammar.specs.declared.Token.TheVariants as token
 
@@ -41,24 +41,25 @@ operand_shorter clause.OfGroups s ts rest (a_key c) = column_shorter c
 operand_shorter clause.OfGroups s ts rest (a_call c) = agg_shorter c
 operand_shorter _ s ts rest _ = omega arith
 
-module _ (k : Clause) where
+module _ {S : Type 0} (Op : S → Tokens → Tokens → Type 0)
+    (each : (s : S) (ts rest : Tokens) → Op s ts rest → IsShorter rest ts) where
   mutual
-    pub cond_shorter : {c : Condition} {ts rest : Tokens} → IsCond (operands_in k) c ts rest
+    pub cond_shorter : {c : CondForm S} {ts rest : Tokens} → IsCond Op c ts rest
         → IsShorter rest ts
     cond_shorter (one_conj a) = conj_shorter a
     cond_shorter (disjunction a b) = omega (arith, cond_shorter a, conj_shorter b)
 
-    pub conj_shorter : {c : Condition} {ts rest : Tokens} → IsConj (operands_in k) c ts rest
+    pub conj_shorter : {c : CondForm S} {ts rest : Tokens} → IsConj Op c ts rest
         → IsShorter rest ts
     conj_shorter (one_neg a) = neg_shorter a
     conj_shorter (conjunction a b) = omega (arith, conj_shorter a, neg_shorter b)
 
-    pub neg_shorter : {c : Condition} {ts rest : Tokens} → IsNeg (operands_in k) c ts rest
+    pub neg_shorter : {c : CondForm S} {ts rest : Tokens} → IsNeg Op c ts rest
         → IsShorter rest ts
     neg_shorter (negation a) = omega (arith, neg_shorter a)
     neg_shorter (enclosed_cond c) = omega (arith, cond_shorter c)
     neg_shorter (comparison {s = s} {a = a} {b = b} {ts = ts} {mid = mid} {rest = rest} l o r) =
-        omega (arith, operand_shorter k a ts (token.Sign s ∷ mid) l, operand_shorter k b mid rest r)
+        omega (arith, each a ts (token.Sign s ∷ mid) l, each b mid rest r)
 
 pub list_shorter : {X : Type 0} (Is : X → Tokens → Tokens → Type 0) (separator : Token)
     → ((x : X) (ts rest : Tokens) → Is x ts rest → IsShorter rest ts)

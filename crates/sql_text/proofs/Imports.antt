@@ -2,8 +2,8 @@
 pub use Rattle.query_model.proofs.NumeralLaws.{with_digits-is}
 pub use Rattle.query_model.specs.Fields.{numeral_value}
 pub use Rattle.sql_grammar.proofs.Longest.{take-take_while, take_while-longest}
-pub use Rattle.query_model.specs.Formulas.{column, number}
-pub use Rattle.query_model.specs.Names.{HasItsArgument, IsAnalysable, IsNoCall, calls_of, formula, item_calls, operands_of, takes_argument}
+pub use Rattle.query_model.specs.Formulas.{CondForm, column, number}
+pub use Rattle.query_model.specs.Names.{HasItsArgument, IsAnalysable, IsNoCall, calls_of, item_calls, operands_of}
 pub use Rattle.query_model.specs.declared.query.AggCall.{AggCall}
 pub use Rattle.query_model.specs.declared.query.AggOp.{AggOp}
 pub use Rattle.query_model.specs.declared.query.ArithOp.{ArithOp}
@@ -12,7 +12,6 @@ pub use Rattle.query_model.specs.declared.query.CompareOp.{CompareOp}
 pub use Rattle.query_model.specs.declared.query.CondOf.{CondOf}
 pub use Rattle.query_model.specs.declared.query.ExprOf.{ExprOf}
 pub use Rattle.query_model.specs.declared.query.Item.{Item}
-pub use Rattle.query_model.specs.declared.query.ItemKind.{ItemKind}
 pub use Rattle.query_model.specs.declared.query.Items.{Items}
 pub use Rattle.query_model.specs.declared.query.Join.{Join}
 pub use Rattle.query_model.specs.declared.query.NamePair.{NamePair}
@@ -21,24 +20,22 @@ pub use Rattle.query_model.specs.declared.query.OrderKey.{OrderKey}
 pub use Rattle.query_model.specs.declared.query.Query.{Query}
 pub use Rattle.query_model.specs.declared.query.Span.{Span}
 pub use Rattle.query_model.specs.declared.query.TableRef.{TableRef}
-pub use Rattle.sql_grammar.specs.Names.{AreKeys, AreListed, CallTree, Condition, Expression, IsAgg, IsColumn, IsComparison, IsCond, IsConj, IsExpr, IsFactor, IsFilter, IsGroupOperand, IsHaving, IsSelectItem, IsJoin, IsJoined, IsLimit, IsNeg, IsOperand, IsOrder, IsOrderKey, IsPair, IsQuery, IsSelection, IsTableRef, IsTerm, IsText, IsWhat, ItemTree, ItemWhat, QueryTree, Selection, QueryOperand, Spells, Tokens, a_call, a_column, a_constant, a_key, a_negative, a_number, a_string, a_text, aggregate_of, all_columns, an_agg, an_expr, an_expression, ascending, bare, both, call, call_item, call_over, compare, comparison, conjunction, count_rows, count_star, descending, difference, disjunction, enclosed, enclosed_cond, equal, equal_columns, greater, greater_equal, has_argument, inner_join, item_tree, join_of, last_one, less, less_equal, listed, named, named_table, negation, negative, no_join, not_equal, numbers_table, one_conj, one_factor, one_more, one_neg, one_term, plain, plain_item, product, qualified, query_tree, select_query, shaping_of, some_items, source_of, sum, table_on, text, tokens_of, unnamed, unqualified, unstated, with_semicolon, AreBy, IsClause, IsNumber, IsSpan, clause_of, listed_by, no_clause, number_of, span_of}
+pub use Rattle.sql_grammar.specs.Names.{AreKeys, AreListed, CallTree, Condition, Expression, IsAgg, IsColumn, IsComparison, IsCond, IsConj, IsExpr, IsFactor, IsFilter, IsGroupOperand, IsHaving, IsSelectItem, IsJoin, IsJoined, IsLimit, IsNeg, IsOperand, IsOrder, IsOrderKey, IsPair, IsQuery, IsSelection, IsTableRef, IsTerm, IsText, IsWhat, ItemTree, ItemWhat, QueryTree, Selection, QueryOperand, Spells, Tokens, a_call, a_column, a_constant, a_key, a_negative, a_number, a_string, a_text, aggregate_of, all_columns, an_agg, an_expr, an_expression, ascending, bare, both, call, call_over, compare, comparison, conjunction, count_rows, count_star, descending, difference, disjunction, enclosed, enclosed_cond, equal, equal_columns, greater, greater_equal, has_argument, inner_join, item_tree, join_of, last_one, less, less_equal, listed, named, named_table, negation, negative, no_join, not_equal, numbers_table, one_conj, one_factor, one_more, one_neg, one_term, plain, plain_item, product, qualified, query_tree, select_query, shaping_of, some_items, source_of, sum, table_on, text, tokens_of, unnamed, unqualified, unstated, with_semicolon, AreBy, IsClause, IsNumber, IsSpan, clause_of, listed_by, no_clause, number_of, span_of}
 pub use Rattle.sql_grammar.specs.Tokens.{behind_token, fitting, is_blank, text_byte, text_end, text_on, token_front}
-pub use Rattle.sql_grammar.specs.declared.Keyword.{Keyword}
 pub use Rattle.sql_grammar.specs.declared.Sign.{Sign}
 pub use Rattle.sql_grammar.specs.declared.TextByte.{TextByte}
 pub use Rattle.sql_grammar.specs.declared.TextPlace.{TextPlace}
 pub use Rattle.sql_grammar.specs.declared.TextPlace.TheVariants.{Middle}
 pub use Rattle.sql_grammar.specs.declared.Token.{Token}
 pub use Rattle.sql_text.specs.Answers.{ParseFails}
-pub use Rattle.sql_text.specs.Terms.{OperandParser, Parse, Parsed, aggregate, binary_of, calculated, call_at, call_or_column, called, closed_at, column_at, condition_of, count_at, dotted, expression, first_keyword, first_sign, first_term, if_both, if_level, joined_at, joint_of, keyword_joint, level, negation_at, negative_at, next_joint, over, parsed, plain_operand, side_of, sign_joint, string, truth, turn_of, word_at}
+pub use Rattle.sql_text.specs.Terms.{OperandParser, Parse, Parsed, PartParser, SideRules, binary_of, calculated, call_at, call_or_column, called, closed_at, column_at, condition_of, count_at, dotted, encloses, first_term, if_both, if_level, joined_at, joint_of, level, negation_at, next_joint, over, parsed, plain_operand, plain_side, query_sides, side, side_at, side_of, sign_joint, term_at, truth, turn_of, word_at}
 pub use Rattle.sql_text.specs.Queries.{QueryTail, after_equal, alias_at, behind, call_front, clause_at, column_ref_at, condition_at, count_behind, direction_at, ending_at, from_at, is_text_end, item_at, item_of, items_at, join_at, joined_table_at, keys_at, limit_at, list_behind, on_at, order_at, order_key_at, pair_at, pair_behind, plain_what, query_at, query_of, selection_at, some_join, table_at, table_named, what_at, what_by, with_alias, by_at, clause_behind, filter_at, having_at, number_parse, offset_at, reads, span_at, span_with, text_query}
-pub use Rattle.sql_text.specs.Refusals.{IsReadFrom, IsRefused, early_refusal, parse_refusal_of, refusal_of_tokens, token_refusal}
-pub use Rattle.sql_text.specs.declared.limits.ParseRefusal.{ParseRefusal}
+pub use Rattle.sql_text.specs.Refusals.{IsReadFrom, IsRefused, early_refusal, parse_refusal_of, token_refusal}
 pub use Rattle.sql_text.specs.declared.lists.Separator.{Separator}
 pub use Rattle.sql_text.specs.declared.term.Clause.{Clause}
 pub use Rattle.sql_text.specs.declared.term.BinaryOperator.{BinaryOperator}
 pub use Rattle.sql_text.specs.declared.parse_error.ParseError.{ParseError}
-pub use Rattle.std.proofs.Common.{Bool, IfSome, List, None, Option, Some, [], add-one, ap, append_assoc, arith, cond, drop, false, flat_map, get_or, inl, inr, length, map, nat_le, option_and_then, option_map, refl, rules, subst, suc, sym, take, true, zero, ℕ, ◌*◌, ◌++◌, ◌+◌, ◌-◌, ◌<◌, ◌∙◌, ◌∷◌, ◌≡◌, ◌≤◌}
+pub use Rattle.std.proofs.Common.{Bool, IfSome, List, None, Option, Some, [], add-one, ap, append_assoc, arith, cond, drop, false, flat_map, get_or, inl, inr, length, map, option_and_then, option_map, refl, subst, suc, sym, take, true, zero, ℕ, ◌*◌, ◌++◌, ◌+◌, ◌-◌, ◌<◌, ◌∙◌, ◌∷◌, ◌≡◌, ◌≤◌}
 pub use Rattle.std.proofs.Math.Seq.{drop-cons}
 pub use Rattle.std.proofs.lemmas.List.{append-nil, drop_all}
 pub use Rattle.std.proofs.lemmas.List.Elements.{All-append, All-cons, All-head, All-nil, All-tail, All-weaker}
@@ -50,5 +47,5 @@ pub use Rattle.std.specs.Prelude.{codes, is_some, nat_lt}
 pub use Rattle.std.specs.Str.{bytes_eq}
 unfoldable pub use Rattle.query_model.specs.Names.{with_digits}
 unfoldable pub use Rattle.sql_grammar.specs.Tokens.{text_at, tokens_behind}
-unfoldable pub use Rattle.sql_text.specs.Terms.{joined, term_at}
+unfoldable pub use Rattle.sql_text.specs.Terms.{joined, part_at}
 unfoldable pub use Rattle.sql_text.specs.Queries.{list_at}

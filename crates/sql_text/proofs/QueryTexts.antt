@@ -1,15 +1,15 @@
 -- A query is read exactly where one is spelled.
-use Rattle.sql_text.proofs.Imports.{◌≡◌, ℕ, zero, suc, ◌≤◌, Bool, true, false, cond, List, [], ◌∷◌, length, Option, Some, None, option_and_then, option_map, IfSome, refl, ap, ◌∙◌, arith, codes, bytes_eq, IfSome_then, bytes_eq-Decides, AggOp, ColumnRef, Join, NamePair, OrderKey, Span, TableRef, Expression, CallTree, Condition, ItemWhat, plain_item, ItemTree, Selection, listed, QueryTree, Tokens, IsExpr, IsColumn, unqualified, qualified, one_term, sum, difference, IsTerm, one_factor, product, IsFactor, a_column, a_number, negative, enclosed, IsAgg, IsCond, AreListed, last_one as the_last, one_more as and_more, IsWhat, an_expression, an_agg, IsSelectItem, unnamed, named, IsSelection, all_columns, some_items, IsTableRef, named_table, numbers_table, IsPair, equal_columns, IsJoined, table_on, IsJoin, no_join, join_of as joined_with, inner_join, IsFilter, AreKeys, IsHaving, IsOrderKey, unstated, ascending, descending, IsOrder, IsLimit, source_of, shaping_of, IsQuery, select_query, IsText, bare, with_semicolon, Token, Clause, Parsed, expression, Parse, next_joint, plain_operand, condition_of, call_at, term_at, list_behind, list_at, behind, alias_at, call_front, plain_what, what_by, what_at, item_of, with_alias, item_at, items_at, selection_at, count_behind, table_named, table_at, from_at, column_ref_at, after_equal, pair_behind, pair_at, on_at, joined_table_at, some_join, join_at, condition_at, clause_at, keys_at, direction_at, order_key_at, order_at, limit_at, is_text_end, QueryTail, ending_at, query_of, query_at, AreBy, IsClause, IsGroupOperand, IsNumber, IsOperand, IsSpan, Separator, by_at, clause_behind, clause_of, filter_at, having_at, listed_by, no_clause, number_parse, number_of, offset_at, reads, span_at, span_of, span_with, text_query}
+use Rattle.sql_text.proofs.Imports.{◌≡◌, ℕ, zero, suc, ◌≤◌, Bool, true, false, cond, List, [], ◌∷◌, length, Option, Some, None, option_and_then, option_map, IfSome, refl, ap, ◌∙◌, arith, codes, bytes_eq, IfSome_then, bytes_eq-Decides, AggOp, ColumnRef, Join, NamePair, OrderKey, Span, TableRef, Expression, CallTree, Condition, ItemWhat, plain_item, ItemTree, Selection, listed, QueryTree, Tokens, IsExpr, IsColumn, unqualified, qualified, one_term, sum, difference, IsTerm, one_factor, product, IsFactor, a_column, a_number, negative, enclosed, IsAgg, IsCond, AreListed, last_one as the_last, one_more as and_more, IsWhat, an_expression, an_agg, IsSelectItem, unnamed, named, IsSelection, all_columns, some_items, IsTableRef, named_table, numbers_table, IsPair, equal_columns, IsJoined, table_on, IsJoin, no_join, join_of as joined_with, inner_join, IsFilter, AreKeys, IsHaving, IsOrderKey, unstated, ascending, descending, IsOrder, IsLimit, source_of, shaping_of, IsQuery, select_query, IsText, bare, with_semicolon, Token, Clause, side, plain, query_sides, Parse, next_joint, plain_operand, condition_of, call_at, term_at, list_behind, list_at, behind, alias_at, call_front, what_by, what_at, item_of, with_alias, item_at, items_at, selection_at, count_behind, table_named, table_at, from_at, column_ref_at, after_equal, pair_behind, pair_at, on_at, joined_table_at, some_join, join_at, condition_at, clause_at, keys_at, direction_at, order_key_at, order_at, limit_at, is_text_end, QueryTail, ending_at, query_of, query_at, AreBy, IsClause, IsGroupOperand, IsNumber, IsOperand, IsSpan, Separator, by_at, clause_behind, clause_of, filter_at, having_at, listed_by, no_clause, number_parse, number_of, offset_at, reads, span_at, span_of, span_with, text_query}
 use Rattle.query_model.specs.declared.query.TableRef.TheVariants as table
 use Rattle.sql_grammar.specs.declared.Token.TheVariants as token
 use Rattle.sql_grammar.specs.declared.Keyword.TheVariants as keyword
 use Rattle.sql_grammar.specs.declared.Sign.TheVariants as sign
 use Rattle.sql_text.specs.declared.lists.Separator.TheVariants as between
 use Rattle.sql_text.specs.declared.term.Clause.TheVariants as clause
-use Rattle.sql_text.proofs.Behind.{IsShorter, operands_in, expr_shorter, cond_shorter, column_shorter, item_shorter, selection_shorter, table_shorter, pair_shorter, joined_shorter, order_key_shorter, list_shorter}
+use Rattle.sql_text.proofs.Behind.{IsShorter, operands_in, operand_shorter, expr_shorter, cond_shorter, column_shorter, item_shorter, selection_shorter, table_shorter, pair_shorter, joined_shorter, order_key_shorter, list_shorter}
 use Rattle.sql_text.proofs.Turns.{ends_name, tighter, deeper}
-use Rattle.sql_text.proofs.PartsFound.{expr_found, cond_found, Calls, agg_found, nothing_called, dotted_found}
-use Rattle.sql_text.proofs.PartsSpelled.{IsPart, bind, map_some, part_spelled, word_called, dotted_spelled}
+use Rattle.sql_text.proofs.PartsFound.{expr_found, cond_found, query_sides-read, Calls, agg_found, nothing_called, dotted_found}
+use Rattle.sql_text.proofs.PartsSpelled.{bind, map_some, term_spelled, word_called, dotted_spelled}
 
 -- ---- what is spelled is read
 
@@ -56,9 +56,9 @@ module _ {X : Type 0} (Is : X → Tokens → Tokens → Type 0) (s : Separator)
 
 plain_found : (n : ℕ) {e : Expression} {ts rest : Tokens} → IsExpr e ts rest → length ts ≤ n
     → ends_name rest ≡ true → next_joint 5 rest ≡ None
-    → term_at n clause.OfRows 5 ts ≡ Some (expression e, rest)
+    → term_at n clause.OfRows 5 ts ≡ Some (side (plain e), rest)
 plain_found n {e = e} {ts = ts} {rest = rest} is l ends none =
-    deeper n l (expr_shorter is)
+    deeper query_sides n l (expr_shorter is)
     (λ m k. expr_found is m 5 (omega arith) ends (tighter 5 6 rest (omega arith) none) k) none
 
 -- whether the tokens begin with a star
@@ -287,7 +287,8 @@ cond_read : (n : ℕ) (k : Clause) {c : Condition} {ts rest : Tokens}
     → condition_at n k ts ≡ Some (c, rest)
 cond_read n k {c = c} {ts = ts} {rest = rest} is l ends =
     ap (option_and_then (λ p. option_map (λ c. (c, p.1)) (condition_of p.0)))
-    (deeper n l (cond_shorter k is) (λ m i. cond_found k is m 1 (omega arith)
+    (deeper query_sides n l (cond_shorter (operands_in k) (operand_shorter k) is)
+    (λ m i. cond_found query_sides k (operands_in k) (query_sides-read k) is m 1 (omega arith)
     ends.name (tighter 1 2 rest (omega arith) ends.joint) i) ends.joint)
 
 having_found : {c : Option Condition} {ts rest : Tokens} → IsHaving c ts rest → (n : ℕ)
@@ -333,7 +334,8 @@ module _ where
   filter_within : {f : Option Condition} {ts rest : Tokens} → IsFilter f ts rest
       → length rest ≤ length ts
   filter_within no_clause = omega arith
-  filter_within (clause_of c) = omega (arith, cond_shorter clause.OfRows c)
+  filter_within (clause_of c) =
+      omega (arith, cond_shorter IsOperand (operand_shorter clause.OfRows) c)
 
   keys_within : {cs : List ColumnRef} {ts rest : Tokens} → AreKeys cs ts rest
       → length rest ≤ length ts
@@ -388,13 +390,9 @@ module _ {X : Type 0} (Is : X → Tokens → Tokens → Type 0) (s : Separator)
 
 -- ---- items
 
-plain_what_spelled : (n : ℕ) (ts : Tokens) → IfSome (plain_what n ts) (λ r. IsWhat r.0 ts r.1)
-plain_what_spelled n ts =
-    grind (arith, part_spelled n clause.OfRows 5 ts (omega arith), an_expression)
-
 called_spelled : (n : ℕ) (ts : Tokens) (c : AggOp × Tokens) → call_front ts ≡ Some c
     → IfSome (call_at (term_at n) c.0 c.1) (λ r. IsAgg r.0 ts r.1)
-called_spelled n (token.Name w ∷ ts) c e = word_called (term_at n) (part_spelled n) w ts c e
+called_spelled n (token.Name w ∷ ts) c e = word_called (term_at n) (term_spelled n) w ts c e
 called_spelled n _ c e = absurd cc
 
 what_spelled : (n : ℕ) (ts : Tokens) → IfSome (what_at n ts) (λ r. IsWhat r.0 ts r.1)
@@ -402,18 +400,13 @@ what_spelled n ts = go (call_front ts) refl
   where
     go : (o : Option (AggOp × Tokens)) → call_front ts ≡ o
         → IfSome (what_by n ts o) (λ r. IsWhat r.0 ts r.1)
-    go None e = plain_what_spelled n ts
+    go None e = grind (arith, term_spelled n clause.OfRows 5 ts (omega arith), an_expression)
     go (Some c) e =
         map_some _ _ _ (call_at (term_at n) c.0 c.1) (called_spelled n ts c e) (λ r is. an_agg is)
 
-name_spelled : (w : ItemWhat) (ts mid : Tokens) → IsWhat w ts (token.Keyword keyword.As ∷ mid)
-    → IfSome (with_alias w (alias_at (token.Keyword keyword.As ∷ mid)))
-    (λ r. IsSelectItem r.0 ts r.1)
-name_spelled w ts mid is = grind (arith, named)
-
 alias_spelled : (w : ItemWhat) (ts mid : Tokens) → IsWhat w ts mid
     → IfSome (with_alias w (alias_at mid)) (λ r. IsSelectItem r.0 ts r.1)
-alias_spelled w ts mid is = grind (arith, name_spelled, unnamed)
+alias_spelled w ts mid is = grind (arith, named, unnamed)
 
 item_spelled : (n : ℕ) (ts : Tokens) → IfSome (item_at n ts) (λ r. IsSelectItem r.0 ts r.1)
 item_spelled n ts = grind (arith, bind, alias_spelled, what_spelled n ts)
@@ -422,15 +415,10 @@ selection_spelled : (n : ℕ) (ts : Tokens) → IfSome (selection_at n ts) (λ r
 selection_spelled n (token.Sign sign.Star ∷ ts) = all_columns
 selection_spelled n ts =
     map_some _ _ _ (items_at n ts)
-    (list_spelled IsSelectItem between.Comma (item_at n) (item_spelled n)
-    (length ts) ts) (λ r are. some_items are)
+    (list_spelled IsSelectItem between.Comma (item_at n) (item_spelled n) (length ts) ts)
+    (λ r are. some_items are)
 
 -- ---- tables and joins
-
-numbers_spelled : (name : List ℕ) (ts : Tokens) → name ≡ codes "numbers"
-    → IfSome (count_behind ts)
-    (λ r. IsTableRef r.0 (token.Name name ∷ token.Sign sign.Open ∷ ts) r.1)
-numbers_spelled name ts e = grind (arith, numbers_table)
 
 named_spelled : (name : List ℕ) (ts : Tokens)
     → IfSome (table_named name ts) (λ r. IsTableRef r.0 (token.Name name ∷ ts) r.1)
@@ -439,7 +427,7 @@ named_spelled name (token.Sign sign.Open ∷ ts) = go (bytes_eq name (codes "num
     go : (b : Bool) → bytes_eq name (codes "numbers") ≡ b
         → IfSome (cond b (count_behind ts) None)
         (λ r. IsTableRef r.0 (token.Name name ∷ token.Sign sign.Open ∷ ts) r.1)
-    go true e = numbers_spelled name ts ((bytes_eq-Decides name (codes "numbers")).0 e)
+    go true e = grind (arith, numbers_table, (bytes_eq-Decides name (codes "numbers")).0 e)
     go false e = tt
 named_spelled name _ = named_table
 
@@ -477,14 +465,9 @@ join_spelled _ = grind (arith, no_join)
 
 -- ---- conditions
 
-truth_spelled : (k : Clause) (v : Parsed) (ts rest : Tokens) → IsPart k 1 v ts rest
-    → IfSome (condition_of v) (λ c. IsCond (operands_in k) c ts rest)
-truth_spelled k v ts rest is = grind arith
-
 cond_spelled : (n : ℕ) (k : Clause) (ts : Tokens)
     → IfSome (condition_at n k ts) (λ r. IsCond (operands_in k) r.0 ts r.1)
-cond_spelled n k ts =
-    grind (arith, bind, map_some, truth_spelled, part_spelled n k 1 ts (omega arith))
+cond_spelled n k ts = grind (arith, bind, map_some, term_spelled n k 1 ts (omega arith))
 
 -- ---- clauses
 
@@ -579,8 +562,7 @@ query_spelled n (token.Keyword keyword.Select ∷ ts) =
     bind _ _ _ (filter_at n j.1) (filter_spelled n j.1) (λ f filter.
     let query = query_of s.0 t.0 j.0 f.0 in
     let Spelled = λ (e : QueryTail × Tokens). IsQuery (query e.0)
-    (token.Keyword keyword.Select ∷ ts)
-    e.1 in
+    (token.Keyword keyword.Select ∷ ts) e.1 in
     map_some Spelled (λ q. IsQuery q.0 (token.Keyword keyword.Select ∷ ts) q.1)
     (λ e. (query e.0, e.1)) (ending_at n f.1)
     (bind _ Spelled _ (keys_at f.1) (keys_spelled f.1) (λ k keys.
@@ -590,10 +572,7 @@ query_spelled n (token.Keyword keyword.Select ∷ ts) =
     (λ l limit. whole items table join filter keys having order limit))))) (λ e is. is)))))
 query_spelled n _ = tt
 
-ended_spelled : (q : QueryTree) (ts rest : Tokens) → IsQuery q ts rest
-    → IfSome (ended q rest) (λ q. IsText q ts)
-ended_spelled q ts rest is = grind (arith, bare, with_semicolon)
-
 pub text_spelled : (n : ℕ) (ts : Tokens) → IfSome (text_query n ts) (λ q. IsText q ts)
 text_spelled n ts =
-    bind _ _ _ (query_at n ts) (query_spelled n ts) (λ q is. ended_spelled q.0 ts q.1 is)
+    bind _ _ _ (query_at n ts) (query_spelled n ts) (λ q is.
+    grind (arith, bare, with_semicolon, is))

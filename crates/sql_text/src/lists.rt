@@ -7,7 +7,7 @@ ghost use Rattle.query_model.specs.declared.query.ColumnRef.{ColumnRef as Column
 ghost use Rattle.query_model.specs.declared.query.OrderKey.{OrderKey as Key};
 ghost use Rattle.sql_text.specs.Answers.{ParseGives};
 ghost use Rattle.sql_text.specs.Terms.{Parse};
-ghost use Rattle.sql_text.specs.Queries.{behind, by_at, list_at, alias_at, call_front, plain_what, what_at, item_at, selection_at, column_ref_at, direction_at, order_key_at};
+ghost use Rattle.sql_text.specs.Queries.{behind, by_at, clause_at, list_at, alias_at, call_front, plain_what, what_at, item_at, selection_at, column_ref_at, direction_at, order_key_at};
 
 use crate::parse_error::ParseError;
 use crate::tables::{column_ref_at, name_at};
@@ -96,11 +96,19 @@ pub fn list_at<T: Listed>(
     Err(ParseError::Syntax)
 }
 
-/// The list behind BY, and the tokens behind that.
-pub fn by_at<T: Listed>(alloc: Global, tokens: &[Token]) -> Result<(List<T>, &[Token]), ParseError>
-    ensures { ParseGives (λ p. (T.trees p.0, p.1.now)) result (by_at (T.reading 0) tokens.now) }
+/// The list behind the mark and BY, or none where the mark doesn't stand.
+pub fn listed_behind<T: Listed>(
+    alloc: Global,
+    mark: Separator,
+    tokens: &[Token],
+) -> Result<(List<T>, &[Token]), ParseError>
+    ensures { ParseGives (λ p. (T.trees p.0, p.1.now)) result
+        (clause_at mark [] (λ xs. xs) (by_at (T.reading 0)) tokens.now) }
 {
-    match behind(Separator::By, tokens) {
+    let Some(rest) = behind(mark, tokens) else {
+        return Ok((List::new(alloc), tokens));
+    };
+    match behind(Separator::By, rest) {
         Some(rest) => list_at(alloc, Separator::Comma, rest, 0),
         None => Err(ParseError::Syntax),
     }
@@ -211,7 +219,6 @@ impl Listed for ColumnRef {
     }
 }
 
-// Whether DESC is stated.
 fn direction_at(tokens: &[Token]) -> (bool, &[Token])
     ensures { (result.0, result.1.now) ≡ direction_at tokens.now }
 {

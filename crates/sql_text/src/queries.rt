@@ -1,11 +1,11 @@
 // Clauses and queries.
-ghost use Rattle.std.specs.Prelude.{◌≡◌, Some, None, option_map, OnOk, IfOk};
+ghost use Rattle.std.specs.Prelude.{Some, None, option_map, OnOk, IfOk};
 ghost use Rattle.query_model.specs.Formulas.{cond_form};
 ghost use Rattle.query_model.specs.Trees.{query_tree, selection};
 ghost use Rattle.sql_text.specs.Answers.{ParseGives};
-ghost use Rattle.sql_text.specs.Queries.{join_at, condition_at, filter_at, having_at, keys_at, order_at, number_parse, offset_at, span_at, limit_at, ending_at, shaped, after_select, query_at};
+ghost use Rattle.sql_text.specs.Queries.{join_at, clause_at, condition_at, number_parse, offset_at, span_at, limit_at, ending_at, shaped, after_select, query_at};
 
-use crate::lists::{Separator, behind, by_at, selection_at};
+use crate::lists::{Separator, behind, listed_behind, selection_at};
 use crate::parse_error::{ParseError, next_token};
 use crate::tables::{from_at, joined_table_at};
 use crate::term::{CONDITION, Clause, condition_of, term_at};
@@ -49,61 +49,23 @@ fn condition_at(
     Ok((Box::into_inner(condition_of(part)?), rest))
 }
 
-fn filter_at(
+// The condition behind the mark, where that stands.
+fn condition_behind(
     alloc: Global,
+    mark: Separator,
+    clause: Clause,
     tokens: &[Token],
     depth: usize,
 ) -> Result<(Option<CondOf<ColumnRef>>, &[Token]), ParseError>
     ensures { ParseGives (λ p. (option_map cond_form p.0, p.1.now)) result
-        (filter_at depth tokens.now) }
+        (clause_at mark None Some (condition_at depth clause) tokens.now) }
 {
-    match behind(Separator::Where, tokens) {
+    match behind(mark, tokens) {
         Some(rest) => {
-            let (condition, rest) = condition_at(alloc, Clause::OfRows, rest, depth)?;
+            let (condition, rest) = condition_at(alloc, clause, rest, depth)?;
             Ok((Some(condition), rest))
         }
         None => Ok((None, tokens)),
-    }
-}
-
-fn having_at(
-    alloc: Global,
-    tokens: &[Token],
-    depth: usize,
-) -> Result<(Option<CondOf<ColumnRef>>, &[Token]), ParseError>
-    ensures { ParseGives (λ p. (option_map cond_form p.0, p.1.now)) result
-        (having_at depth tokens.now) }
-{
-    match behind(Separator::Having, tokens) {
-        Some(rest) => {
-            let (condition, rest) = condition_at(alloc, Clause::OfGroups, rest, depth)?;
-            Ok((Some(condition), rest))
-        }
-        None => Ok((None, tokens)),
-    }
-}
-
-fn keys_at(alloc: Global, tokens: &[Token]) -> Result<(List<ColumnRef>, &[Token]), ParseError>
-    ensures { ParseGives (λ p. (p.0, p.1.now)) result (keys_at tokens.now) }
-{
-    match behind(Separator::Group, tokens) {
-        Some(rest) => {
-            let (keys, rest) = by_at(alloc, rest)?;
-            Ok((keys, rest))
-        }
-        None => Ok((List::new(alloc), tokens)),
-    }
-}
-
-fn order_at(alloc: Global, tokens: &[Token]) -> Result<(List<OrderKey>, &[Token]), ParseError>
-    ensures { ParseGives (λ p. (p.0, p.1.now)) result (order_at tokens.now) }
-{
-    match behind(Separator::Order, tokens) {
-        Some(rest) => {
-            let (keys, rest) = by_at(alloc, rest)?;
-            Ok((keys, rest))
-        }
-        None => Ok((List::new(alloc), tokens)),
     }
 }
 
@@ -120,10 +82,7 @@ fn offset_at(tokens: &[Token]) -> Result<(u64, &[Token]), ParseError>
     ensures { ParseGives (λ p. (p.0, p.1.now)) result (offset_at tokens.now) }
 {
     match behind(Separator::Offset, tokens) {
-        Some(rest) => {
-            let (skip, rest) = number_at(rest)?;
-            Ok((skip, rest))
-        }
+        Some(rest) => number_at(rest),
         None => Ok((0, tokens)),
     }
 }
@@ -168,9 +127,9 @@ fn ending_at(
       p.1.now,
     )) result (ending_at depth tokens.now) }
 {
-    let (keys, rest) = keys_at(alloc, tokens)?;
-    let (having, rest) = having_at(alloc, rest, depth)?;
-    let (order, rest) = order_at(alloc, rest)?;
+    let (keys, rest) = listed_behind(alloc, Separator::Group, tokens)?;
+    let (having, rest) = condition_behind(alloc, Separator::Having, Clause::OfGroups, rest, depth)?;
+    let (order, rest) = listed_behind(alloc, Separator::Order, rest)?;
     let (limit, rest) = limit_at(rest)?;
     let ending = Ending {
         keys,
@@ -228,6 +187,6 @@ pub fn query_at(
     let (items, rest) = selection_at(alloc, after_select(tokens)?, depth)?;
     let (from, rest) = from_at(rest)?;
     let (join, rest) = join_at(alloc, rest)?;
-    let (filter, rest) = filter_at(alloc, rest, depth)?;
+    let (filter, rest) = condition_behind(alloc, Separator::Where, Clause::OfRows, rest, depth)?;
     shaped(alloc, items, from, join, filter, rest, depth)
 }

@@ -209,7 +209,6 @@ fn token_at(
     }
 }
 
-// The byte at the front, and the bytes behind it.
 fn next_byte(bytes: &[u8]) -> Option<(u8, &[u8])>
     ensures { MatchOption result (bytes.now ≡ []) (λ p. bytes.now ≡ p.0 ∷ p.1.now) }
 {

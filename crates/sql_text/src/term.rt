@@ -1,11 +1,9 @@
 // Expressions and conditions.
 ghost use Rattle.std.specs.Prelude.{◌≡◌, ℕ, suc, ◌+◌, ◌<◌, ◌≤◌, length, List, Some, None, option_map, OnOk, IfOk};
-ghost use Rattle.query_model.specs.Formulas.{call_form, cond_form, formula, number, operand_form};
-ghost use Rattle.sql_text.specs.declared.term.BinaryOperator.TheVariants.{Arith, Compare, And, Or};
+ghost use Rattle.query_model.specs.Formulas.{call_form, cond_form, formula, number, operand_form, plain};
 ghost use Rattle.sql_grammar.specs.declared.Token.{Token};
-ghost use Rattle.sql_text.specs.declared.term.Clause.{Clause as Kind};
 ghost use Rattle.sql_text.specs.Answers.{ParseGives};
-ghost use Rattle.sql_text.specs.Terms.{expression, truth, parsed, calculated, sign_joint, keyword_joint, joint_of, level, next_joint, binary_of, side_of, plain_operand, condition_of, column_at, negative_at, behind_bracket, closed_at, count_at, call_over, called, call_at, word_at, negation_at, first_sign, first_keyword, first_term, turn_of, joined, term_at};
+ghost use Rattle.sql_text.specs.Terms.{side, truth, parsed, sign_joint, keyword_joint, joint_of, level, next_joint, binary_of, side_of, side_form, query_sides, plain_side, plain_operand, condition_of, calculated, encloses, column_at, side_at, behind_bracket, closed_at, count_at, call_over, called, call_at, word_at, negation_at, first_term, turn_of, joined, term_at};
 
 use crate::parse_error::{ParseError, next_token};
 use crate::tables::dotted_at;
@@ -40,13 +38,19 @@ pub enum BinaryOperator {
     Or,
 }
 
+// A side of a comparison, or a part of one.
+#[derive(Drop)]
+pub enum Side {
+    Plain(Box<ExprOf<ColumnRef>>),
+    Text(Bytes),
+    Call(Box<AggCall<ColumnRef>>),
+}
+
 // A part of an expression or a condition. It is small, since the reading of nested parts holds many
 // of them on the stack.
 #[derive(Drop)]
 pub enum Term {
-    Plain(Box<ExprOf<ColumnRef>>),
-    Text(Bytes),
-    Call(Box<AggCall<ColumnRef>>),
+    Side(Side),
     Condition(Box<CondOf<ColumnRef>>),
 }
 
@@ -101,7 +105,6 @@ fn level(joint: BinaryOperator) -> u8
     }
 }
 
-// The level of what may stand at a binary operator's right.
 fn level_above(joint: BinaryOperator) -> u8
     ensures is { result ≡ suc (level joint) }
     ensures bound { result ≤ 7 }
@@ -122,23 +125,12 @@ fn next_joint(least: u8, tokens: &[Token]) -> Option<(BinaryOperator, &[Token])>
     }
 }
 
-fn side_of(part: Term) -> Result<Operand<ColumnRef>, ParseError>
-    ensures { ParseGives operand_form result (side_of (parsed part)) }
+fn side_of(part: Term) -> Result<Side, ParseError>
+    ensures { ParseGives side_form result (side_of (parsed part)) }
 {
     match part {
-        Term::Plain(e) => Ok(Operand::Plain(Box::into_inner(e))),
-        Term::Text(t) => Ok(Operand::Text(t)),
-        Term::Call(c) => Ok(Operand::Agg(Box::into_inner(c))),
+        Term::Side(s) => Ok(s),
         Term::Condition(_) => Err(ParseError::Syntax),
-    }
-}
-
-pub fn plain_of(part: Term) -> Result<Box<ExprOf<ColumnRef>>, ParseError>
-    ensures { ParseGives (λ e. formula e.value) result (plain_operand (parsed part)) }
-{
-    match part {
-        Term::Plain(e) => Ok(e),
-        Term::Text(_) | Term::Call(_) | Term::Condition(_) => Err(ParseError::Syntax),
     }
 }
 
@@ -147,14 +139,39 @@ pub fn condition_of(part: Term) -> Result<Box<CondOf<ColumnRef>>, ParseError>
 {
     match part {
         Term::Condition(c) => Ok(c),
-        Term::Plain(_) | Term::Text(_) | Term::Call(_) => Err(ParseError::Syntax),
+        Term::Side(_) => Err(ParseError::Syntax),
     }
 }
 
-fn plain_part(alloc: Global, expr: ExprOf<ColumnRef>) -> Result<Term, ParseError>
-    ensures { ParseGives parsed result (Some (expression (formula expr))) }
+fn operand_of(side: Side) -> Operand<ColumnRef>
+    ensures { operand_form result ≡ side_form side }
 {
-    Ok(Term::Plain(Box::new(alloc, expr)?))
+    match side {
+        Side::Plain(e) => Operand::Plain(Box::into_inner(e)),
+        Side::Text(t) => Operand::Text(t),
+        Side::Call(c) => Operand::Agg(Box::into_inner(c)),
+    }
+}
+
+fn plain_side(side: Side) -> Result<Box<ExprOf<ColumnRef>>, ParseError>
+    ensures { ParseGives (λ e. formula e.value) result (plain_side (side_form side)) }
+{
+    match side {
+        Side::Plain(e) => Ok(e),
+        Side::Text(_) | Side::Call(_) => Err(ParseError::Syntax),
+    }
+}
+
+pub fn plain_of(part: Term) -> Result<Box<ExprOf<ColumnRef>>, ParseError>
+    ensures { ParseGives (λ e. formula e.value) result (plain_operand (parsed part)) }
+{
+    plain_side(side_of(part)?)
+}
+
+fn expression_side(alloc: Global, expr: ExprOf<ColumnRef>) -> Result<Side, ParseError>
+    ensures { ParseGives side_form result (Some (plain (formula expr))) }
+{
+    Ok(Side::Plain(Box::new(alloc, expr)?))
 }
 
 fn condition_part(alloc: Global, condition: CondOf<ColumnRef>) -> Result<Term, ParseError>
@@ -168,46 +185,33 @@ fn calculated(
     alloc: Global,
     clause: Clause,
     op: ArithOp,
-    left: Term,
-    right: Term,
-) -> Result<Term, ParseError>
-    ensures { ParseGives parsed result (calculated clause op (parsed left) (parsed right)) }
+    left: Side,
+    right: Side,
+) -> Result<Side, ParseError>
+    ensures { ParseGives side_form result
+        (calculated clause op (side_form left) (side_form right)) }
 {
     match clause {
         Clause::OfRows => {
-            let a = plain_of(left)?;
-            let b = plain_of(right)?;
-            plain_part(alloc, ExprOf::Arith(op, a, b))
+            let a = plain_side(left)?;
+            let b = plain_side(right)?;
+            expression_side(alloc, ExprOf::Arith(op, a, b))
         }
         Clause::OfGroups => Err(ParseError::Syntax),
     }
 }
 
-fn compared(alloc: Global, op: CompareOp, left: Term, right: Term) -> Result<Term, ParseError>
-    ensures { (k : Kind)
-        → ParseGives parsed result (binary_of k (Compare op) (parsed left) (parsed right)) }
+// An expression stands in parentheses, but not in HAVING.
+fn encloses(clause: Clause, side: &Side) -> bool
+    ensures { result ≡ encloses clause (side_form side.now) }
 {
-    let a = side_of(left)?;
-    let b = side_of(right)?;
-    condition_part(alloc, CondOf::Compare(op, a, b))
+    match (clause, side) {
+        (Clause::OfRows, Side::Plain(_)) => true,
+        (Clause::OfRows, Side::Text(_) | Side::Call(_)) | (Clause::OfGroups, _) => false,
+    }
 }
 
-fn both_of(alloc: Global, left: Term, right: Term) -> Result<Term, ParseError>
-    ensures { (k : Kind) → ParseGives parsed result (binary_of k And (parsed left) (parsed right)) }
-{
-    let a = condition_of(left)?;
-    let b = condition_of(right)?;
-    condition_part(alloc, CondOf::And(a, b))
-}
-
-fn either_of(alloc: Global, left: Term, right: Term) -> Result<Term, ParseError>
-    ensures { (k : Kind) → ParseGives parsed result (binary_of k Or (parsed left) (parsed right)) }
-{
-    let a = condition_of(left)?;
-    let b = condition_of(right)?;
-    condition_part(alloc, CondOf::Or(a, b))
-}
-
+// What the binary operator makes of two parts.
 fn combined(
     alloc: Global,
     clause: Clause,
@@ -215,13 +219,30 @@ fn combined(
     left: Term,
     right: Term,
 ) -> Result<Term, ParseError>
-    ensures { ParseGives parsed result (binary_of clause joint (parsed left) (parsed right)) }
+    ensures { ParseGives parsed result
+        (binary_of query_sides clause joint (parsed left) (parsed right)) }
 {
     match joint {
-        BinaryOperator::Arith(op) => calculated(alloc, clause, op, left, right),
-        BinaryOperator::Compare(op) => compared(alloc, op, left, right),
-        BinaryOperator::And => both_of(alloc, left, right),
-        BinaryOperator::Or => either_of(alloc, left, right),
+        BinaryOperator::Arith(op) => {
+            let a = side_of(left)?;
+            let b = side_of(right)?;
+            Ok(Term::Side(calculated(alloc, clause, op, a, b)?))
+        }
+        BinaryOperator::Compare(op) => {
+            let a = operand_of(side_of(left)?);
+            let b = operand_of(side_of(right)?);
+            condition_part(alloc, CondOf::Compare(op, a, b))
+        }
+        BinaryOperator::And => {
+            let a = condition_of(left)?;
+            let b = condition_of(right)?;
+            condition_part(alloc, CondOf::And(a, b))
+        }
+        BinaryOperator::Or => {
+            let a = condition_of(left)?;
+            let b = condition_of(right)?;
+            condition_part(alloc, CondOf::Or(a, b))
+        }
     }
 }
 
@@ -230,28 +251,19 @@ fn column_at<'a>(
     alloc: Global,
     name: &Bytes,
     tokens: &'a [Token],
-) -> Result<(Term, &'a [Token]), ParseError>
-    ensures { ParseGives (λ p. (parsed p.0, p.1.now)) result
+) -> Result<(Side, &'a [Token]), ParseError>
+    ensures { ParseGives (λ p. (side_form p.0, p.1.now)) result
         (Some (column_at name.now tokens.now)) }
 {
     let (column, rest) = dotted_at(name.copy()?, tokens)?;
-    Ok((plain_part(alloc, ExprOf::Column(column))?, rest))
+    Ok((expression_side(alloc, ExprOf::Column(column))?, rest))
 }
 
-fn number_part(alloc: Global, negative: bool, size: u64) -> Result<Term, ParseError>
-    ensures { ParseGives parsed result
-        (Some (expression (number (record { negative = negative; size = size })))) }
+fn number_side(alloc: Global, negative: bool, size: u64) -> Result<Side, ParseError>
+    ensures { ParseGives side_form result
+        (Some (plain (number (record { negative = negative; size = size })))) }
 {
-    plain_part(alloc, ExprOf::Number(Number { negative, size }))
-}
-
-fn negative_at(alloc: Global, tokens: &[Token]) -> Result<(Term, &[Token]), ParseError>
-    ensures { ParseGives (λ p. (parsed p.0, p.1.now)) result (negative_at tokens.now) }
-{
-    match next_token(tokens)? {
-        (Token::Number(size), rest) => Ok((number_part(alloc, true, *size)?, rest)),
-        _ => Err(ParseError::Syntax),
-    }
+    expression_side(alloc, ExprOf::Number(Number { negative, size }))
 }
 
 fn after_close(tokens: &[Token]) -> Result<&[Token], ParseError>
@@ -264,17 +276,18 @@ fn after_close(tokens: &[Token]) -> Result<&[Token], ParseError>
     }
 }
 
-// An expression stands in parentheses, but not in HAVING.
 fn closed_at(clause: Clause, part: Term, tokens: &[Token]) -> Result<(Term, &[Token]), ParseError>
     ensures { ParseGives (λ p. (parsed p.0, p.1.now)) result
-        (closed_at clause (parsed part) tokens.now) }
+        (closed_at query_sides clause (parsed part) tokens.now) }
 {
     match part {
-        Term::Plain(e) => match clause {
-            Clause::OfRows => Ok((Term::Plain(e), after_close(tokens)?)),
-            Clause::OfGroups => Err(ParseError::Syntax),
-        },
-        Term::Text(_) | Term::Call(_) => Err(ParseError::Syntax),
+        Term::Side(s) => {
+            if encloses(clause, &s) {
+                Ok((Term::Side(s), after_close(tokens)?))
+            } else {
+                Err(ParseError::Syntax)
+            }
+        }
         Term::Condition(c) => Ok((Term::Condition(c), after_close(tokens)?)),
     }
 }
@@ -294,7 +307,6 @@ fn count_at(tokens: &[Token]) -> Result<(AggCall<ColumnRef>, &[Token]), ParseErr
     }
 }
 
-// A call over the expression that was read.
 fn call_over(
     op: AggOp,
     part: Term,
@@ -326,7 +338,7 @@ fn negated(alloc: Global, part: Term) -> Result<Term, ParseError>
 {
     match part {
         Term::Condition(c) => condition_part(alloc, CondOf::Not(c)),
-        Term::Plain(_) | Term::Text(_) | Term::Call(_) => Err(ParseError::Syntax),
+        Term::Side(_) => Err(ParseError::Syntax),
     }
 }
 
@@ -358,8 +370,8 @@ fn word_at<'a>(
     word: &Bytes,
     tokens: &'a [Token],
     depth: usize,
-) -> Result<(Term, &'a [Token]), ParseError>
-    ensures { ParseGives (λ p. (parsed p.0, p.1.now)) result
+) -> Result<(Side, &'a [Token]), ParseError>
+    ensures { ParseGives (λ p. (side_form p.0, p.1.now)) result
         (word_at clause (term_at depth) word.now tokens.now) }
 {
     match clause {
@@ -367,56 +379,36 @@ fn word_at<'a>(
         Clause::OfGroups => match called(word.as_slice(), tokens) {
             Some((op, rest)) => {
                 let (call, rest) = call_at(alloc, op, rest, depth)?;
-                Ok((Term::Call(Box::new(alloc, call)?), rest))
+                Ok((Side::Call(Box::new(alloc, call)?), rest))
             }
             None => column_at(alloc, word, tokens),
         },
     }
 }
 
+// A side without binary operators: a column, a number, a string or a call.
 #[cycle(part)]
-fn first_sign(
+fn side_at(
     alloc: Global,
     clause: Clause,
-    sign: Sign,
     tokens: &[Token],
     depth: usize,
-) -> Result<(Term, &[Token]), ParseError>
-    ensures { ParseGives (λ p. (parsed p.0, p.1.now)) result
-        (first_sign clause (term_at depth) sign tokens.now) }
+) -> Result<(Side, &[Token]), ParseError>
+    ensures { ParseGives (λ p. (side_form p.0, p.1.now)) result
+        (side_at clause (term_at depth) tokens.now) }
 {
-    match sign {
-        Sign::Minus => negative_at(alloc, tokens),
-        Sign::Open => {
-            let (part, rest) = term_at(alloc, clause, CONDITION, tokens, depth)?;
-            closed_at(clause, part, rest)
+    match tokens {
+        [Token::Name(name), ..] => word_at(alloc, clause, name, &tokens[1..], depth),
+        [Token::Number(size), ..] => Ok((number_side(alloc, false, *size)?, &tokens[1..])),
+        [Token::Sign(Sign::Minus), Token::Number(size), ..] => {
+            Ok((number_side(alloc, true, *size)?, &tokens[2..]))
         }
+        [Token::Text(text), ..] => Ok((Side::Text(text.copy()?), &tokens[1..])),
         _ => Err(ParseError::Syntax),
     }
 }
 
-#[cycle(part)]
-fn first_keyword(
-    alloc: Global,
-    clause: Clause,
-    keyword: Keyword,
-    tokens: &[Token],
-    depth: usize,
-) -> Result<(Term, &[Token]), ParseError>
-    ensures { ParseGives (λ p. (parsed p.0, p.1.now)) result
-        (first_keyword clause (term_at depth) keyword tokens.now) }
-{
-    match keyword {
-        Keyword::Not => {
-            let (part, rest) = term_at(alloc, clause, COMPARISON, tokens, depth)?;
-            Ok((negated(alloc, part)?, rest))
-        }
-        _ => Err(ParseError::Syntax),
-    }
-}
-
-// A part without binary operators: a column, a number, a string, a call, what stands in
-// parentheses, or a negation.
+// A part without binary operators: a side, what stands in parentheses, or a negation.
 #[cycle(part)]
 fn first_term(
     alloc: Global,
@@ -425,16 +417,21 @@ fn first_term(
     depth: usize,
 ) -> Result<(Term, &[Token]), ParseError>
     ensures { ParseGives (λ p. (parsed p.0, p.1.now)) result
-        (first_term clause (term_at depth) tokens.now) }
+        (first_term query_sides clause (term_at depth) tokens.now) }
 {
-    let (token, rest) = next_token(tokens)?;
-    match token {
-        Token::Name(name) => word_at(alloc, clause, name, rest, depth),
-        Token::Keyword(keyword) => first_keyword(alloc, clause, *keyword, rest, depth),
-        Token::Number(size) => Ok((number_part(alloc, false, *size)?, rest)),
-        Token::LargeNumber => Err(ParseError::Syntax),
-        Token::Text(text) => Ok((Term::Text(text.copy()?), rest)),
-        Token::Sign(sign) => first_sign(alloc, clause, *sign, rest, depth),
+    match tokens {
+        [Token::Keyword(Keyword::Not), ..] => {
+            let (part, rest) = term_at(alloc, clause, COMPARISON, &tokens[1..], depth)?;
+            Ok((negated(alloc, part)?, rest))
+        }
+        [Token::Sign(Sign::Open), ..] => {
+            let (part, rest) = term_at(alloc, clause, CONDITION, &tokens[1..], depth)?;
+            closed_at(clause, part, rest)
+        }
+        _ => {
+            let (side, rest) = side_at(alloc, clause, tokens, depth)?;
+            Ok((Term::Side(side), rest))
+        }
     }
 }
 
@@ -470,7 +467,7 @@ fn turn_of(
     depth: usize,
 ) -> Result<(Term, &[Token]), ParseError>
     ensures { ParseGives (λ p. (parsed p.0, p.1.now)) result
-        (turn_of clause (term_at depth) joint (parsed left) tokens.now) }
+        (turn_of query_sides clause (term_at depth) joint (parsed left) tokens.now) }
 {
     let (right, rest) = term_at(alloc, clause, level_above(joint), tokens, depth)?;
     Ok((combined(alloc, clause, joint, left, right)?, rest))
@@ -488,7 +485,8 @@ fn joined(
     depth: usize,
 ) -> Result<(Term, &[Token]), ParseError>
     ensures { ParseGives (λ p. (parsed p.0, p.1.now)) result
-        (joined clause (term_at depth) least (suc (length tokens.now)) (parsed first) tokens.now) }
+        (joined query_sides clause (term_at depth) least (suc (length tokens.now)) (parsed first)
+        tokens.now) }
 {
     let mut part = first;
     let mut rest = tokens;
