@@ -7,7 +7,7 @@ pub use Rattle.port_word.specs.Pictures.{no_flags, no_wire}
 pub use Rattle.exec_table.specs.CoreNames.{Act, Chunk, Close, CoreState, Finish, Flags, NodeState, PortState, Pull, Push, Sizes, Step, Unwant, Want, Wire}
 pub use Rattle.exec_table.specs.Words.{edge_count, first_word, flags_word, found_by, node_place, node_words, place, port_place, port_words, wire_of, wire_place, wire_word, wire_words, words_of, wire_in}
 pub use Rattle.exec_table.specs.Boards.{Begun, Board, Born, EdgeEnd, NodeView, Over, Stage, View, Holds, Lane, LaneHolds, StageHolds, board_after, end_at, end_for, end_view, fits_end, home_of, lane_at, lanes_after, looked_at, no_end, no_lane, node_view, chunk_numbers, pulled_from, pushed_to, stage_at, turn_at}
-pub use Rattle.exec_table.specs.Rule.{Distinct, IsSeen, Sat, Shown, ViewFits, aiming, first_view, no_view, one, start_board, start_stage, unstopped}
+pub use Rattle.exec_table.specs.Rule.{Distinct, IsSeen, Sat, Shown, ViewFits, aiming, finding, first_view, no_view, one, start_board, start_stage, unstopped}
 pub use Rattle.exec_table.specs.Ready.{Did, can_act, end_of_view, front, in_hand, is_at_hand, is_empty_hand, is_full_hand, ready, slot_act}
 pub use Rattle.std.proofs.Common.{Bool, List, None, Option, Some, [], ap, append-nil, arith, bit_and, bit_or, bit_xor, cond, drop, eqb, false, get_or, inl, inr, is_none, is_some, length, map, not, refl, rules, set, subst, suc, sym, take, true, zero, ℕ, ⊎_elim, ◌&&◌, ◌++◌, ◌+◌, ◌-◌, ◌%◌, ◌<◌, ◌^◌, ◌||◌, ◌∙◌, ◌∷◌, ◌≡◌, ◌≢◌, ◌≤◌, ◌⊎◌, append_assoc, replicate, vec_capacity}
 pub use Rattle.std.proofs.lemmas.Bool.{and_from, and_parts, both_ways, eq-eqb, le-leb, lt-leb, lt-ltb, cases_Bool, cases_eq, cases_lt, cond_both, eqb-true, ne_eqb, or_cases, or_right}
@@ -31,7 +31,7 @@ pub use Rattle.atomic_table.specs.declared.shared.Seat.{Seat}
 pub use Rattle.exec_table.specs.Closings.{IsFinal}
 pub use Rattle.exec_table.specs.Made.{just_first, rest_of, without_first_node, IsOpen}
 pub use Rattle.exec_table.specs.Plays.{Worked, next_worker, with_worker, first_or_none}
-pub use Rattle.exec_table.specs.Seats.{ExecTable, Identity, NodeSeat, IsSeatOf, identity_of, sizes_in, seen_in_word, view, HandHolds, MakesStep, Slots, edges_out, slots, slot_in, IsInHand, holds_chunk, slot_of, push_of}
+pub use Rattle.exec_table.specs.Seats.{ExecTable, Identity, NodeSeat, WorkerSeat, IsSeatOf, IsWorkerOf, WorkerDoes, identity_of, sizes_in, seen_in_word, view, HandHolds, MakesStep, Slots, edges_out, slots, slot_in, IsInHand, holds_chunk, slot_of, push_of}
 pub use Rattle.exec_table.specs.Surveys.{AreAll, EachSeat, HasAll, IsBack, IsLent, Surveyed, joined_views, noted_word, noting, views}
 pub use Rattle.std.proofs.Math.Nat.{mod-eq_of_lt}
 pub use Rattle.std.specs.Slots.{slots_filled, slots_items, slots_len, slots_counts}

@@ -99,6 +99,7 @@ makes {t} {old} {new} {s} {l} {x} o d hand table node places room put says kept 
   may = d.may;
   kept = subst Holds put d.kept;
   now = grind (arith, d.view, put);
+  found = ap (λ v. v.found) d.view ∙ d.word;
   says = says;
   carried = kept;
 }

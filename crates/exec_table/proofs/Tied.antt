@@ -1,6 +1,6 @@
 -- The tie of the running table to the core: an atomic step of a node's seat, whose view is ready
 -- for a step of the core, keeps the rule and tells that step.
-use Rattle.exec_table.proofs.Imports.{Allows, Board, Bool, Chunk, Did, ViewFits, Holds, IsSeen, Lane, List, NodeView, None, Option, Sat, Shown, Sizes, Some, State, Step, Valid, View, [], and_parts, ap, arith, at_index, at_map, board_after, cond_both, eqb-true, false, fits_end, found_by, front, get_elem?, get_or, get_or_default, home_of, homes_after, in_hand, is_at_hand, is_empty_hand, is_full_hand, lanes_after, length, looked_at, map, map-set, may, node_view, not, one, place, ready, refl, rest, set, set-get_or, sizes-kept, slot_act, some, stepped, subst, sym, true, words_of, ℕ, ◌&&◌, ◌<◌, ◌∙◌, ◌∷◌, ◌≡◌, ◌≢◌, ◌≤◌, end-of}
+use Rattle.exec_table.proofs.Imports.{Allows, Board, Bool, Chunk, Did, ViewFits, Holds, IsSeen, Lane, List, NodeView, None, Option, Sat, Shown, Sizes, Some, State, Step, Valid, View, [], and_parts, ap, arith, at_index, at_map, board_after, cond_both, eqb-true, false, finding, fits_end, found_by, front, get_elem?, get_or, get_or_default, home_of, homes_after, in_hand, is_at_hand, is_empty_hand, is_full_hand, lanes_after, length, looked_at, map, map-set, may, node_view, not, place, ready, refl, rest, set, set-get_or, sizes-kept, slot_act, some, stepped, subst, sym, true, words_of, ℕ, ◌&&◌, ◌<◌, ◌∙◌, ◌∷◌, ◌≡◌, ◌≢◌, ◌≤◌, end-of}
 use Rattle.exec_table.proofs.Readiness.{ready-may, view-end}
 use Rattle.exec_table.proofs.Moving.{Moved}
 use Rattle.exec_table.proofs.Showing.{fits-set}
@@ -109,11 +109,11 @@ module _ (key : Sizes) (slots id : ℕ) (m : Sat) (x : NodeView) (s : Step) (i :
       worker = λ k q. subst (λ l. k < l.workers) (sym sizes) (t.worker k q);
     }
 
-    own : ViewFits d r.owner id (one (node_view d n))
+    own : ViewFits d r.owner id (finding (get_or st.words i 0) (node_view d n))
     own = grind (arith, sizes, here.inside, here.owned)
 
-    keeps-rule : Shown key (stepped st i (f (get_or st.words i 0)) id m.1 (one (node_view d n))
-        (slot_act b n s))
+    keeps-rule : Shown key (stepped st i (f (get_or st.words i 0)) id m.1
+        (finding (get_or st.words i 0) (node_view d n)) (slot_act b n s))
     keeps-rule = record {
       board = d;
       holds = holds-after b n s (front m.1) r.holds here.inside can handed;
@@ -127,7 +127,7 @@ module _ (key : Sizes) (slots id : ℕ) (m : Sat) (x : NodeView) (s : Step) (i :
   -- the seat may make the step, and is told it
   pub tied : Allows (Shown key) slots id m i f (Did x s m.1)
   tied st r deep mine fit = (
-    one (node_view (d st r mine) n),
+    finding (get_or st.words i 0) (node_view (d st r mine) n),
     slot_act (b st r mine) n s,
     subst (λ l. Valid l m.1 (slot_act (b st r mine) n s)) (sym r.homes)
         (slot-valid r.board n s m.1 r.holds (can st r mine)),

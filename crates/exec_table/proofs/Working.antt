@@ -1,5 +1,5 @@
 -- Marks, wires and workers: what their calls' proofs cite.
-use Rattle.exec_table.proofs.Imports.{Allows, Board, Bool, Step, board_after, ViewFits, Holds, None, Sat, Shown, Sizes, Some, Splits, View, Wire, ap, edge_count, arith, at_snoc, bit_at_or, bit_or, cond, end_of_view, first_word, get_elem?, get_or, keeps, length, may, node_view, or_comm, or_shifted, peer_in, port_at, refl, same_from_bits, set, some, subst, sym, true, wire_of, wire_ok, wire_word, ℕ, ⊎_elim, ◌+◌, ◌<◌, ◌^◌, ◌∙◌, ◌≡◌, ◌≤◌, le-leb, lt-leb, ready, Worked, next_worker, with_worker, wire_in, ExecTable, Identity, IsSeatOf, identity_of, seen_in_word, view, NodeSeat}
+use Rattle.exec_table.proofs.Imports.{Allows, Board, Bool, Step, StepAnswer, WorkerSeat, IsWorkerOf, WorkerDoes, answer, board_after, ViewFits, Holds, None, Sat, Shown, Sizes, Some, Splits, View, Wire, ap, edge_count, arith, at_snoc, bit_at_or, bit_or, cond, end_of_view, first_word, get_elem?, get_or, keeps, length, may, node_view, or_comm, or_shifted, peer_in, port_at, refl, same_from_bits, set, some, subst, sym, true, wire_of, wire_ok, wire_word, ℕ, ⊎_elim, ◌+◌, ◌<◌, ◌^◌, ◌∙◌, ◌≡◌, ◌≤◌, le-leb, lt-leb, ready, Worked, next_worker, with_worker, wire_in, ExecTable, Identity, IsSeatOf, identity_of, seen_in_word, view, NodeSeat}
 use Rattle.exec_table.proofs.Showing.{fits-none, fits-set, shown_by_other_views, stopped_at, stopped-fits, stopped-holds}
 use Rattle.exec_table.proofs.Wording.{pending-small}
 use Rattle.exec_table.proofs.Seating.{known-wire, wire-read}
@@ -73,9 +73,10 @@ pub worker-allowed : (key : Sizes) (slots id : ℕ) (m : Sat) (s : Step) (f : �
     → ((b : Board) (n : ℕ) → may b.core n s ≡ core.is_worker b.core n)
     → ((p : ℕ) (t : Bool) → p < 2 ^ 62 → f (p + cond t (2 ^ 63) 0) ≡ p + cond (to t) (2 ^ 63) 0)
     → m.0.sizes ≡ key → Allows (Shown key) slots id m 0 f
-    (λ n m'. (m' ≡ m) × ((k : ℕ) → m.0.worker ≡ Some k → Worked m.0.sizes k s n))
+    (λ n m'. (m' ≡ (record m.0 { found = n }, m.1))
+    × ((k : ℕ) → m.0.worker ≡ Some k → Worked m.0.sizes k s n))
 worker-allowed key slots id m s f to after worker word sizes st r deep mine fit = (
-  m.0,
+  record m.0 { found = get_or st.words 0 0 },
   keeps,
   tt,
   record {
@@ -86,7 +87,8 @@ worker-allowed key slots id m s f to after worker word sizes st r deep mine fit 
         grind (arith, r.words, now);
     homes = r.homes;
     owner = r.owner;
-    seats = fits-set _ _ _ (ViewFits d r.owner) (still id m.0 (r.seats id m.0 mine))
+    seats = fits-set _ _ _ (ViewFits d r.owner)
+        (let z = still id m.0 (r.seats id m.0 mine) in grind arith)
         (λ j u _ q. still j u (r.seats j u q));
   },
   (
@@ -116,6 +118,22 @@ worker-allowed key slots id m s f to after worker word sizes st r deep mine fit 
 
     still : (j : ℕ) (v : View) → ViewFits b r.owner j v → ViewFits d r.owner j v
     still j v = stopped-fits _ b r.owner j v
+
+-- what the worker's step told, by the word that its seat keeps
+pub worker-does : {t : Identity} {old new : WorkerSeat} {s : Step} {w : ℕ} {a : StepAnswer}
+    → (o : IsWorkerOf t old) → new.seat.me ≡ (record old.seat.me.0 { found = w }, old.seat.me.1)
+    → ((k : ℕ) → old.seat.me.0.worker ≡ Some k → Worked old.seat.me.0.sizes k s w)
+    → ((b : Board) → Holds b → w ≡ first_word b.core
+    → answer b.core (t.sizes.nodes + o.number) s ≡ a) → WorkerDoes t new s a
+worker-does {t} {old} {new} {s} {w} o same did says =
+    let found = sym (ap (λ m. m.0.found) same) in let is = ap (λ m. m.0.worker) o.view in
+    let d : Worked t.sizes o.number s new.seat.me.0.found = subst (Worked t.sizes o.number s) found
+    (subst (λ z. Worked z o.number s w) (ap (λ m. m.0.sizes) o.view) (did o.number is)) in record {
+      number = o.number;
+      is = ap (λ m. m.0.worker) same ∙ is;
+      did = d;
+      says = says d.before d.holds (found ∙ d.word);
+    }
 
 -- what word 0 tells
 pub seen-read : (b : Board) → Holds b → core.seen_in b.core ≡ seen_in_word (first_word b.core)

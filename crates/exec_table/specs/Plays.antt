@@ -71,7 +71,7 @@ pub record Worked (z : Sizes) (k : ℕ) (s : Step) (found : ℕ) : Type 0 where
 
 -- a worker looks at word 0, or sets its stop bit
 abbrev pub works : Stp → Sat → ℕ → Sat → Type 0
-works st m found m' = (m' ≡ m) × ((k : ℕ) → m.0.worker ≡ Some k
+works st m found m' = (m' ≡ (record m.0 { found = found }, m.1)) × ((k : ℕ) → m.0.worker ≡ Some k
     → Worked m.0.sizes k (cond (st.first == 0) step.See step.Stop) found)
 
 -- the root's view with one more worker made, and the view of that worker

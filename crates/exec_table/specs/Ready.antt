@@ -5,7 +5,7 @@ use Rattle.atomic_table.specs.Table.{Act, keeps, takes, gives, carried_after}
 use Rattle.core_laws.specs.declared.types.Step.TheVariants as step
 use Rattle.exec_table.specs.Words.{found_by, edge_count}
 use Rattle.exec_table.specs.Boards.{Board, EdgeEnd, NodeView, Holds, node_view, board_after, lane_at, no_end, fits_end, is_unborn_stage, is_over_stage}
-use Rattle.exec_table.specs.Rule.{Sat, one}
+use Rattle.exec_table.specs.Rule.{Sat, finding}
 use Rattle.exec_table.specs.CoreNames.{Act as PortAct, Close, Finish, Pull, Push, Step, Unwant, Want, has, knows, flags_at, is_end, wire_ok, may_wire, port_at, may, acting_end, allows, has_token, may_take, may_leave, is_none_of, Chunk}
 
 abbrev pub end_of_view : NodeView → ℕ → EdgeEnd
@@ -88,5 +88,5 @@ pub record Did (x : NodeView) (s : Step) (slots : List (ℕ × Option Chunk)) (f
   pub may : may before.core x.number s ≡ true
   pub kept : Holds (board_after before x.number s (front slots))
   pub word : found ≡ found_by before.core x.number s
-  pub view : m.0 ≡ one (node_view (board_after before x.number s (front slots)) x.number)
+  pub view : m.0 ≡ finding found (node_view (board_after before x.number s (front slots)) x.number)
   pub hand : m.1 ≡ carried_after slots (slot_act before x.number s)

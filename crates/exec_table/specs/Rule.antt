@@ -65,6 +65,7 @@ no_view = record {
   nodes = [];
   noted = [];
   aim = 0;
+  found = 0;
   made = 0;
   worker = None;
   sizes = no_sizes;
@@ -76,6 +77,10 @@ one x = record no_view { nodes = x ∷ [] }
 -- a view of one node that has looked up the wire of the edge e
 abbrev pub aiming : ℕ → NodeView → View
 aiming e x = record (one x) { aim = e }
+
+-- a view of one node whose step found the word w
+abbrev pub finding : ℕ → NodeView → View
+finding w x = record (one x) { found = w }
 
 -- ---- the start
 

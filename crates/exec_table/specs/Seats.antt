@@ -5,7 +5,7 @@ use Rattle.atomic_table.specs.Seated.{TableId}
 use Rattle.core_laws.specs.Steps as core
 use Rattle.core_laws.specs.declared.types.Step.TheVariants as step
 use Rattle.exec_table.specs.CoreNames.{Sizes, Step, Wire, has, knows, once, is_set, StepAnswer, may, answer, Chunk}
-use Rattle.exec_table.specs.Words.{edge_count}
+use Rattle.exec_table.specs.Words.{edge_count, found_by}
 use Rattle.exec_table.specs.Boards.{Board, Holds, NodeView, node_view, board_after}
 pub use Rattle.exec_table.specs.Ready.{end_of_view, is_full_hand as holds_chunk}
 use Rattle.exec_table.specs.Plays.{Worked, first_node}
@@ -99,7 +99,8 @@ KeepsSlots old new = (d : ℕ) (v : Option Chunk) → slot_of new d ≡ Some v
     ⊎ ((slot_of old d ≡ None) × ((end_of_view (view new) d).turn ≡ Some v))
 
 -- the call made the step s of the core, which put x into a slot, and answered a: there was a state
--- that met the laws, in which the seat's view said what was so, as the new view says it after it
+-- that met the laws, in which the seat's view said what was so, as the new view says it after it,
+-- and a is what the word tells that the step found
 pub record MakesStep (t : Identity) (old new : NodeSeat) (s : Step) (x : Option Chunk)
     (a : StepAnswer) : Type 0 where
   pub seat : IsSeatOf t new
@@ -109,6 +110,7 @@ pub record MakesStep (t : Identity) (old new : NodeSeat) (s : Step) (x : Option 
   pub may : may before.core (view old).number s ≡ true
   pub kept : Holds (board_after before (view old).number s x)
   pub now : node_view (board_after before (view old).number s x) (view old).number ≡ view new
+  pub found : new.seat.me.0.found ≡ found_by before.core (view old).number s
   pub says : answer before.core (view old).number s ≡ a
   pub carried : KeepsSlots old new
 
@@ -157,14 +159,15 @@ pub record IsRootOf (t : Identity) (s : RootSeat) : Type 0 where
 pub record IsWorkerOf (t : Identity) (s : WorkerSeat) : Type 0 where
   pub table : s.seat.table_id ≡ t.id
   pub number : ℕ
-  pub view : s.seat.me ≡ (record no_view { worker = Some number; sizes = t.sizes }, [])
+  pub view : s.seat.me
+      ≡ (record no_view { found = s.seat.me.0.found; worker = Some number; sizes = t.sizes }, [])
 
--- the step of the worker, from a state of the table's sizes that met the laws, which answered a
+-- the last step of the worker, from a state of the table's sizes that met the laws: it answered a,
+-- which is what the word tells that it found
 pub record WorkerDoes (t : Identity) (s : WorkerSeat) (p : Step) (a : StepAnswer) : Type 0 where
   pub number : ℕ
   pub is : s.seat.me.0.worker ≡ Some number
-  pub found : ℕ
-  pub did : Worked t.sizes number p found
+  pub did : Worked t.sizes number p s.seat.me.0.found
   pub says : answer did.before.core (t.sizes.nodes + number) p ≡ a
 
 -- what word 0 tells

@@ -38,6 +38,8 @@ pub struct View {
     pub noted: List<u64>,
     /// The edge whose wire this seat looked up last.
     pub aim: u32,
+    /// The word that this seat's last step found.
+    pub found: u64,
     /// How many worker's seats were made out of this one.
     pub made: u32,
     /// The number of the worker.

@@ -41,9 +41,9 @@ impl ExecTable {
     /// Ends the run: every worker sees it from now on.
     pub fn stop(&self, seat: &mut WorkerSeat)
         requires { IsWorkerOf (identity_of self.now) seat.old }
-        ensures same { seat.new.seat.me ≡ seat.old.seat.me }
         ensures worker { IsWorkerOf (identity_of self.now) seat.new }
-        ensures told { WorkerDoes (identity_of self.now) seat.old step.Stop nothing }
+        ensures number { seat.new.seat.me.0.worker ≡ seat.old.seat.me.0.worker }
+        ensures told { WorkerDoes (identity_of self.now) seat.new step.Stop nothing }
     {
         let shared = &self.table.shared;
         shared.fetch_or::<AtFirst>(&mut seat.seat, 0, STOPPED);
@@ -52,9 +52,9 @@ impl ExecTable {
     /// Whether something is pending, and whether the run was stopped.
     pub fn see(&self, seat: &mut WorkerSeat) -> Seen
         requires { IsWorkerOf (identity_of self.now) seat.old }
-        ensures same { seat.new.seat.me ≡ seat.old.seat.me }
         ensures worker { IsWorkerOf (identity_of self.now) seat.new }
-        ensures told { WorkerDoes (identity_of self.now) seat.old step.See
+        ensures number { seat.new.seat.me.0.worker ≡ seat.old.seat.me.0.worker }
+        ensures told { WorkerDoes (identity_of self.now) seat.new step.See
             (tells_seen (seen_of result)) }
     {
         seen(self.table.shared.load::<AtFirst>(&mut seat.seat, 0))

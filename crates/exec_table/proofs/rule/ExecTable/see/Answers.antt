@@ -1,5 +1,5 @@
-use Rattle.exec_table.proofs.Imports.{Worked, ap, arith, refl, seen, seen_in_word, sizes_in, subst, sym, ◌∙◌}
-use Rattle.exec_table.proofs.Working.{seen-read, worker-allowed}
+use Rattle.exec_table.proofs.Imports.{ap, arith, refl, seen, seen_in_word, sym, ◌∙◌}
+use Rattle.exec_table.proofs.Working.{seen-read, worker-allowed, worker-does}
 use Rattle.core_laws.specs.declared.types.Step.TheVariants as step
 use Rattle.exec_table.proofs.rule.ExecTable.see.Goals as goal
 
@@ -12,15 +12,5 @@ load-requires c = let w = c.args.self.now.words in (
 )
 
 pub returns-clause-told : goal.returns-clause-told
-returns-clause-told c = let s = c.requires in let is = ap (λ m. m.0.worker) s.view in
-    let d : Worked (sizes_in c.args.self.now) s.number step.See c.load.result =
-    subst (λ z. Worked z s.number step.See c.load.result) (ap (λ m. m.0.sizes) s.view)
-    (c.load.ensures.2.1 s.number is) in record {
-      number = s.number;
-      is = is;
-      found = c.load.result;
-      did = d;
-      says =
-          ap seen (seen-read d.before d.holds
-          ∙ (ap seen_in_word (sym d.word) ∙ sym c.seen.ensures));
-    }
+returns-clause-told c = let e = c.load.ensures.2 in worker-does c.requires e.0 e.1 (λ b h word.
+    ap seen (seen-read b h ∙ (ap seen_in_word (sym word) ∙ sym c.seen.ensures)))

@@ -1,5 +1,5 @@
-use Rattle.exec_table.proofs.Imports.{Worked, ap, arith, bit_or, refl, subst, true, ◌^◌}
-use Rattle.exec_table.proofs.Working.{stop-word, worker-allowed}
+use Rattle.exec_table.proofs.Imports.{ap, arith, bit_or, refl, true, ◌^◌}
+use Rattle.exec_table.proofs.Working.{stop-word, worker-allowed, worker-does}
 use Rattle.core_laws.specs.declared.types.Step.TheVariants as step
 use Rattle.exec_table.proofs.rule.ExecTable.stop.Goals as goal
 
@@ -13,11 +13,5 @@ fetch_or-requires c = let w = c.args.self.now.words in (
 )
 
 pub returns-clause-told : goal.returns-clause-told
-returns-clause-told c = let s = c.requires in let is = ap (λ m. m.0.worker) s.view in record {
-  number = s.number;
-  is = is;
-  found = c.fetch_or.result;
-  did = subst (λ z. Worked z s.number step.Stop c.fetch_or.result) (ap (λ m. m.0.sizes) s.view)
-      (c.fetch_or.ensures.2.1 s.number is);
-  says = refl;
-}
+returns-clause-told c = let e = c.fetch_or.ensures.2 in
+    worker-does c.requires e.0 e.1 (λ _ _ _. refl)
