@@ -1,5 +1,5 @@
 -- What a step of the fetch does, by what the reader gave.
-use Rattle.csv_procs.proofs.Imports.{Bool, Fetching, FileState, HoldsFront, HoldsMore, IsAfter, IsFile, IsKnownOf, IsWholeFile, List, MatchesReader, Notes, Ok, PartSpec, Paths, ReaderState, Rows, StandsAtEnd, Steps, StepsTo, Wake, ap, arith, bad_place, false, inl, length, length-append, raised, refl, stage_in, subst, sym, true, ℕ, ◌+◌, ◌-◌, ◌∙◌, ◌≡◌, ◌≤◌}
+use Rattle.csv_procs.proofs.Imports.{Bool, Fetching, FileState, HoldsFront, HoldsMore, HoldsPart, IsAfter, IsFile, IsKnownOf, IsWholeFile, List, MatchesReader, Notes, Ok, PartSpec, Paths, ReaderState, Rows, StandsAtEnd, Steps, StepsTo, Wake, ap, arith, bad_place, false, inl, length, length-append, raised, refl, stage_in, subst, sym, true, ℕ, ◌+◌, ◌-◌, ◌∙◌, ◌≡◌, ◌≤◌}
 use Rattle.csv_procs.proofs.HeldFiles.{HoldsFront-block, HoldsFront-whole}
 use Rattle.proc_api.specs.declared.status.Wake.TheVariants as wake
 
@@ -52,14 +52,17 @@ module _ (x y : ReaderState) (after : IsAfter x y) (lists : Bool) (part : PartSp
       )
 
   -- the file is fetched whole
-  pub whole-step : (s : FileState) (n' : Notes) → StandsAtEnd x.files x.position → n' ≡ n
-      → IsWholeFile lists part.header held s
+  pub whole-step : (s : FileState) (n' : Notes) → StandsAtEnd x.files x.position
+      → y.position ≡ x.position → n' ≡ n → IsWholeFile lists part.header held s
       → Steps x y lists part (Fetching held) s n n' (Ok wake.Ready)
-  whole-step s n' end same whole =
+  whole-step s n' end still same whole =
       noting n.given s wake.Ready n' (omega arith) same (comes lists s whole)
     where
+      front : HoldsPart x.files x.position part held n.given
+      front = tied.front refl refl
+
       is-file : IsFile x.files part.path held
-      is-file = let front = tied.front refl refl in HoldsFront-whole front.front end front.found
+      is-file = HoldsFront-whole front.front end front.found
 
       tie : (b : Bool) (s : FileState) → (stage_in part s).opened ≡ true
           → (stage_in part s).fetched ≡ true → IsKnownOf b part held (stage_in part s)
@@ -67,7 +70,13 @@ module _ (x y : ReaderState) (after : IsAfter x y) (lists : Bool) (part : PartSp
       tie b s opened fetched known = record {
         shut = λ e. absurd (let wrong = sym opened ∙ e in cc);
         front = λ e e'. absurd (let wrong = sym fetched ∙ e' in cc);
-        read = λ e. record { bytes = held; are = is-file; known = known };
+        read = λ e. record {
+          bytes = held;
+          are = is-file;
+          known = known;
+          given_is = front.given_is;
+          at = still ∙ front.front.at;
+        };
         few_pendings = tied.few_pendings;
         few_bytes = tied.few_bytes;
       }

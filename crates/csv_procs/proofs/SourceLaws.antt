@@ -1,5 +1,5 @@
 -- The clauses of a source's calls.
-use Rattle.csv_procs.proofs.Imports.{ArePartBytes, AreResized, Bool, BoxPicture, Err, Expands, Fails, FaultComes, FaultHolds, FaultInCall, FaultIsDue, Faults, Fetching, FileState, Growth, Held, IfErr, IfOk, IfSome, IsFile, IsLongFile, IsLongTold, IsRead, IsWholeFile, IsWorkOf, KeepsRows, KeepsSame, Kind, KnowsList, List, ListedPaths, Lists, MatchesReader, None, Notes, NotesEnd, OfPart, Ok, Option, OwnState, PartMatchesReader, PartSpec, Paths, Position, Prepared, ReaderState, ReaderView, Result, RowCount, Rows, Schedules, Shut, Some, Status, StaysAt, StepComes, StepsTo, ToldFiles, Wake, WakeComes, WorkFault, ap, arith, bad_line_in, bad_place, bad_place_in, chunk_rows, cond, csv_kind, csv_spec, false, file_of, files_of, good_rows, grown-keeps, growth_form, had-same, held_made, held_unworked, inl, inr, is_fetched, is_grown, kept_input, kept_inputs, kept_output, kept_outputs, length, list_growth, list_uses, lists_in, loaded_seen, option_map, paths_of, refl, rows_if_some, shell_state, source_of, source_unmade, source_uses, sourcing, spec_growth, stage_in, subst, sym, true, with_answer, ℕ, ◌++◌, ◌+◌, ◌<◌, ◌∙◌, ◌≡◌, HasMade, IsReadOut, KeepsMade, own_of, reading_of}
+use Rattle.csv_procs.proofs.Imports.{ArePartBytes, AreResized, Bool, BoxPicture, Err, Expands, Fails, FaultComes, FaultHolds, FaultInCall, FaultIsDue, Faults, Fetching, FileState, Growth, Held, IfErr, IfOk, IfSome, IsFile, IsLongFile, IsLongTold, IsRead, IsWholeFile, IsWorkOf, KeepsRows, KeepsSame, Kind, KnowsList, List, ListedPaths, Lists, MatchesReader, None, Notes, NotesEnd, OfPart, Ok, Option, OwnState, PartMatchesReader, PartSpec, Paths, Position, Prepared, ReaderState, ReaderView, Result, RowCount, Rows, Schedules, Shut, Some, StandsBehind, Status, StaysAt, StepComes, StepsTo, ToldFiles, Wake, WakeComes, WorkFault, ap, arith, bad_line_in, bad_place, bad_place_in, chunk_rows, cond, csv_kind, cases_Bool, csv_spec, false, file_of, files_of, good_rows, grown-keeps, growth_form, had-same, held_made, held_unworked, inl, inr, is_fetched, is_grown, is_opened, kept_input, kept_inputs, kept_output, kept_outputs, length, list_growth, list_uses, lists_in, loaded_seen, option_map, paths_of, refl, rows_if_some, shell_state, source_of, source_unmade, source_uses, sourcing, spec_growth, stage_in, subst, sym, true, with_answer, ℕ, ◌++◌, ◌+◌, ◌<◌, ◌∙◌, ◌≡◌, HasMade, IsReadOut, KeepsMade, own_of, reading_of}
 use Rattle.csv_procs.proofs.HeldFiles.{told_as_pairs}
 use Rattle.query_model.specs.declared.processor_spec.Spec.TheVariants as spec
 use Rattle.proc_api.specs.declared.status.Wake.TheVariants as wake
@@ -21,30 +21,36 @@ source told f pd count lists part' s h n =
 
 -- a bad place or line that is found is that of the file
 pub fault-told : (told : ToldFiles) (position : Position) (f pd : ℕ) (k : Kind) (count : RowCount)
-    (lists : Bool) (part' : PartSpec) (s : FileState) (h : Held) (n : Notes)
+    (lists : Bool) (part' : PartSpec) (s : FileState) (h : Held) (n : Notes) → csv_kind lists ≡ k
     → MatchesReader told position lists part' (stage_in part' s) n.given n.pendings
     → (e : WorkFault) → Fails (sourcing lists part' s) e
-    → FaultIsDue (Some e)
+    → FaultHolds (Some e)
     (loaded_seen k (reads told f pd) count (shell_state (sourcing lists part' s) h n))
-fault-told told position f pd k count lists part' s h n t fault.Memory y = tt
-fault-told None position f pd k count false part' s h n t (fault.Bad place) y = tt
-fault-told None position f pd k count true part' s h n t (fault.BadList line) y = tt
-fault-told (Some all) position f pd k count false part' (Rows r) h n t (fault.Bad place) y =
-    let read = t.read refl in
-    ap (bad_place_in part'.header part'.types) (told_as_pairs all part'.path ∙ read.are)
-    ∙ sym read.known ∙ y.1
-fault-told (Some all) position f pd k count true part' (Paths l) h n t (fault.BadList line) y =
-    let read = t.read refl in
-    ap bad_line_in (told_as_pairs all part'.path ∙ read.are) ∙ sym read.known.1 ∙ y.1
-fault-told (Some all) position f pd k count false part' s h n t (fault.Bad place) y =
+fault-told told position f pd k count lists part' s h n of t fault.Memory y = tt
+fault-told None position f pd k count lists part' s h n of t (fault.Bad place) y =
+    (sym of ∙ y.0, tt)
+fault-told None position f pd k count lists part' s h n of t (fault.BadList line) y =
+    (sym of ∙ y.0, tt)
+fault-told (Some all) position f pd k count false part' (Rows r) h n of t (fault.Bad place) y =
+    let read = t.read refl in (
+      sym of ∙ y.0,
+      ap (bad_place_in part'.header part'.types) (told_as_pairs all part'.path ∙ read.are)
+          ∙ sym read.known ∙ y.1,
+    )
+fault-told (Some all) position f pd k count true part' (Paths l) h n of t (fault.BadList line) y =
+    let read = t.read refl in (
+      sym of ∙ y.0,
+      ap bad_line_in (told_as_pairs all part'.path ∙ read.are) ∙ sym read.known.1 ∙ y.1,
+    )
+fault-told (Some all) position f pd k count false part' s h n of t (fault.Bad place) y =
     absurd (let e = y.1 in cc)
-fault-told (Some all) position f pd k count true part' s h n t (fault.BadList line) y =
+fault-told (Some all) position f pd k count true part' s h n of t (fault.BadList line) y =
     absurd (let e = y.1 in cc)
-fault-told told position f pd k count true part' s h n t (fault.Bad place) y =
+fault-told told position f pd k count true part' s h n of t (fault.Bad place) y =
     absurd (let e = y.0 in cc)
-fault-told told position f pd k count false part' s h n t (fault.BadList line) y =
+fault-told told position f pd k count false part' s h n of t (fault.BadList line) y =
     absurd (let e = y.0 in cc)
-fault-told told position f pd k count lists part' s h n t e y = absurd y
+fault-told told position f pd k count lists part' s h n of t e y = absurd y
 
 -- a source without a fault matches its reader
 pub tied-now : (told : ToldFiles) (position : Position) (lists : Bool) (part' : PartSpec)
@@ -60,11 +66,17 @@ told-bytes : (told : ToldFiles) (path bytes : List ℕ) → IsFile told path byt
 told-bytes None path bytes e = tt
 told-bytes (Some all) path bytes e = told_as_pairs all path ∙ e
 
-long-pairs : (told : ToldFiles) (path : List ℕ) → IsLongTold told path 1073741824
-    → IfSome (option_map files_of told) (λ files. IsLongFile files path)
-long-pairs None path x = tt
-long-pairs (Some all) path x =
-    record { bytes = x.bytes; are = told_as_pairs all path ∙ x.are; long = x.long }
+of-part : (b : Bool) (part' : PartSpec) (X : PartSpec → Type 0) → X part'
+    → OfPart (Some (csv_spec b part')) X
+of-part false part' X x = x
+of-part true part' X x = x
+
+long-pairs : (told : ToldFiles) (b : Bool) (part' : PartSpec)
+    → IsLongTold told part'.path 1073741824 → IfSome (option_map files_of told)
+    (λ files. OfPart (Some (csv_spec b part')) (λ part. IsLongFile files part.path))
+long-pairs None b part' x = tt
+long-pairs (Some all) b part' x = of-part b part' _
+    (record { bytes = x.bytes; are = told_as_pairs all part'.path ∙ x.are; long = x.long })
 
 -- ---- schedule
 
@@ -214,6 +226,13 @@ module _ (d e : ReaderState) (count : RowCount) (lists : Bool) (part' : PartSpec
       )
   step-facts s s' a x = absurd x
 
+  step-opens : (s s' : FileState) (a : Wake) → StepsTo told lists part' s n s' noted a
+      → is_opened s' ≡ true
+  step-opens Shut (Fetching held) wake.Later x = refl
+  step-opens (Fetching held) (Fetching grown) wake.Later x = refl
+  step-opens (Fetching held) s' wake.Ready x = grind arith
+  step-opens s s' a x = absurd x
+
   step-idle : (b : Bool) (s s' : FileState) (r : Result Wake WorkFault) → lists_in b s' ≡ b
       → IsWorkOf (Some (csv_spec b part')) (P b s).work
       → IsWorkOf (Some (csv_spec b part')) (Q b s' r).work
@@ -260,9 +279,27 @@ module _ (d e : ReaderState) (count : RowCount) (lists : Bool) (part' : PartSpec
     comes = λ lawful. (step-facts s s' a x.0).2;
   }
 
-  of-part : (b : Bool) (X : PartSpec → Type 0) → X part' → OfPart (Some (csv_spec b part')) X
-  of-part false X x = x
-  of-part true X x = x
+  -- where the reader stands after a step
+  stands : (s : FileState) (a : Wake) → is_opened s ≡ true
+      → MatchesReader told e.position lists part' (stage_in part' s) given pendings
+      → StandsBehind (Q lists s (Ok a)) e.position part'
+  stands s a opened m = elim (cases_Bool (is_fetched s)) [
+    | inl all ↦ let read = m.read all in record {
+      at = read.at ∙ ap (λ k. Some (part'.path, k)) (sym read.given_is);
+      whole = λ _. (read.bytes, told-bytes told part'.path read.bytes read.are, sym read.given_is);
+    }
+    | inr more ↦ let front = m.front opened more in record {
+      at = front.front.at ∙ ap (λ k. Some (part'.path, k)) (sym front.given_is);
+      whole = λ all. false-true (sym more ∙ all);
+    }
+  ]
+
+  pub placed-of : (s s' : FileState) (r : Result Wake WorkFault)
+      → StepComes r d e lists part' s s' n noted
+      → IfOk r (λ a. OfPart (Q lists s' r).spec (StandsBehind (Q lists s' r) e.position))
+  placed-of s s' (Err f) x = tt
+  placed-of s s' (Ok a) x = of-part lists part' (StandsBehind (Q lists s' (Ok a)) e.position)
+      (stands s' a (step-opens s s' a x.0) x.1)
 
   stays-grown : (s s' : FileState) → StaysAt s s'
       → (Q lists s' (Err fault.Memory)).growth ≡ (P lists s).growth
@@ -279,7 +316,7 @@ module _ (d e : ReaderState) (count : RowCount) (lists : Bool) (part' : PartSpec
   told-by s s' fault.Read x = (x.1, x.2, tt)
   told-by s s' fault.Memory x = (tt, tt, tt)
   told-by s s' fault.Stalled x = (tt, (let m = x.0 in omega (arith, m)), x.0)
-  told-by s s' fault.TooLong x = (tt, x.1, of-part lists _ (long-pairs told part'.path x.2))
+  told-by s s' fault.TooLong x = (tt, x.1, long-pairs told lists part' x.2)
   told-by s s' f x = absurd x
 
   pub fault-of : (s s' : FileState) (r : Result Wake WorkFault)

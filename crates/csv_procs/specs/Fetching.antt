@@ -22,19 +22,21 @@ IsKnownOf false part bytes g = g.bad ≡ bad_place 1 part.types (part_records pa
 IsKnownOf true list bytes g =
     (g.paths ≡ paths_in (Some bytes)) × (g.bad_line ≡ bad_line_in (Some bytes))
 
--- what is known is of the file
-pub record HasRead (told : ToldFiles) (lists : Bool) (part : PartSpec) (g : SourceStage) : Type
-    0 where
+-- what is known is of the file, behind whose bytes the reader stands, which gave them all
+pub record HasRead (told : ToldFiles) (position : Position) (lists : Bool) (part : PartSpec)
+    (g : SourceStage) (given : ℕ) : Type 0 where
   pub bytes : List ℕ
   pub are : IsFile told part.path bytes
   pub known : IsKnownOf lists part bytes g
+  pub given_is : given ≡ length bytes
+  pub at : position ≡ Some (part.path, length bytes)
 
 -- how far the part is, by its reader's files and where that stands, within the limits
 pub record MatchesReader (told : ToldFiles) (position : Position) (lists : Bool) (part : PartSpec)
     (g : SourceStage) (given pendings : ℕ) : Type 0 where
   pub shut : g.opened ≡ false → given ≡ 0
   pub front : g.opened ≡ true → g.fetched ≡ false → HoldsPart told position part g.held given
-  pub read : g.fetched ≡ true → HasRead told lists part g
+  pub read : g.fetched ≡ true → HasRead told position lists part g given
   pub few_pendings : pendings < 1000000
   pub few_bytes : given ≤ 1073741824
 
@@ -62,7 +64,7 @@ ReadGives x y held grown n n' (Ok fetched.More) =
     HoldsMore x y held grown 1073741824
     × (n' ≡ record n { given = raised n.given (length grown - length held) })
 ReadGives x y held grown n n' (Ok fetched.Whole) =
-    StandsAtEnd x.files x.position × (grown ≡ held) × (n' ≡ n)
+    StandsAtEnd x.files x.position × (y.position ≡ x.position) × (grown ≡ held) × (n' ≡ n)
 ReadGives x y held grown n n' (Ok fetched.Pending) =
     CountIncreased x.pendings y.pendings × (y.position ≡ x.position) × (grown ≡ held)
     × (n' ≡ record n { pendings = raised n.pendings 1 }) × (n'.pendings < 1000000)

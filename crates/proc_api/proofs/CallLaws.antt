@@ -1,5 +1,5 @@
 -- What the actions of a view push.
-use Rattle.proc_api.proofs.Imports.{Action, Bool, EachAction, IsSound, List, None, Option, Picture, Push, ShowsInFlags, Some, Table, Unwant, Want, [], ap, both_ways, cond, cond_both, eqb-true, false, input_at, noted_want, output_at, pulled_at, pushed_at, pushes_to, refl, taken_out, true, want_of, ℕ, ◌++◌, ◌==◌, ◌∙◌, ◌∷◌, ◌≡◌}
+use Rattle.proc_api.proofs.Imports.{arith, Action, Bool, EachAction, IsSound, List, None, Option, Picture, Push, ShowsInFlags, Some, Table, Unwant, Want, [], ap, both_ways, cond, cond_both, eqb-true, false, input_at, noted_want, output_at, pulled_at, pushed_at, pushes_to, refl, taken_out, true, want_of, ℕ, ◌++◌, ◌==◌, ◌∙◌, ◌∷◌, ◌≡◌}
 
 more-or-same : (b : Bool) (chunk : Table) (xs ys zs : List Table) → xs ≡ ys ++ zs
     → cond b (chunk ∷ xs) xs ≡ cond b (chunk ∷ ys) ys ++ zs
@@ -43,9 +43,7 @@ pushes-shown : (p : Picture) (o : ℕ) (xs : List Action) → (output_at p o).ha
 unfolding pushes_to
 pushes-shown p o [] e h = refl
 pushes-shown p o (Push j chunk ∷ xs) e h =
-    cond_both (o == j) (chunk ∷ pushes_to o xs) (pushes_to o xs) (λ l. l ≡ [])
-    (λ k. absurd (both_ways (output_at p o).has_data e
-    (ap (λ n. (output_at p n).has_data) (eqb-true o j k) ∙ h.0.1))) (λ k. pushes-shown p o xs e h.1)
+    search (arith, both_ways, eqb-true, pushes-shown p o xs e h.1)
 pushes-shown p o (a ∷ xs) e h = pushes-shown p o xs e h.1
 
 pub no-pushes : (p : Picture) (o : ℕ) → IsSound p → (output_at p o).has_data ≡ false

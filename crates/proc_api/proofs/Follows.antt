@@ -1,16 +1,10 @@
 -- The view of a node is one that its box may be prepared against.
-use Rattle.proc_api.proofs.Imports.{Action, AreAsKept, BoxPicture, Flags, FollowsKept, Input, InputFollows, InputPort, IsSound, List, MaySee, None, Option, Output, OutputFollows, Picture, PortFlags, Some, Spec, StandStill, Table, TakesFirstAction, after_see, all_port_flags, and_from, and_parts, ap, arith, get_or-replicate, in_count, in_count-with_input, in_count-with_output, inl, input_at, input_at-with_input, input_at-with_input-other, input_at-with_output, kept_input, kept_inputs, kept_output, kept_outputs, length-map, length-replicate, new_input, new_picture, no_flags, no_input, no_notes, not, out_count, out_count-with_input, out_count-with_output, output_at, output_at-with_input, output_at-with_output, output_at-with_output-other, over_flags, refl, seen_chunk, subst, sym, with_actions, with_input, with_output, ℕ, ◌<◌, ◌∙◌, ◌≡◌, ◌≤◌}
+use Rattle.proc_api.proofs.Imports.{Action, AreAsKept, BoxPicture, Flags, FollowsKept, Input, InputFollows, InputPort, IsSound, List, MaySee, None, Option, Output, OutputFollows, Picture, PortFlags, Some, Spec, StandStill, Table, TakesFirstAction, after_see, all_port_flags, and_from, arith, get_or-replicate, in_count, in_count-with_input, in_count-with_output, inl, input_at, input_at-with_input, input_at-with_input-other, input_at-with_output, kept_input, kept_inputs, kept_output, kept_outputs, length-map, length-replicate, new_picture, no_notes, out_count, out_count-with_input, out_count-with_output, output_at, output_at-with_input, output_at-with_output, output_at-with_output-other, refl, seen_chunk, subst, sym, with_actions, with_input, with_output, ℕ, ◌<◌, ◌∙◌, ◌≡◌, ◌≤◌}
 use Rattle.proc_api.proofs.KeptFlags.{kept_input-of, kept_output-of, kept_inputs-of, kept_outputs-of}
 use Rattle.proc_api.proofs.ShutPorts.{by-place}
 
 input-itself : (f : Flags) → InputFollows f f
-input-itself f = record {
-  needed = refl;
-  fin_in = refl;
-  fin_out = λ e. e;
-  stays_empty = λ a b. b;
-  stays_full = λ e. (and_parts f.has_data (not f.fin_in) e).0;
-}
+input-itself f = search arith
 
 output-itself : (f : Flags) → OutputFollows f f
 output-itself f = record { fin_out = refl; fin_in = λ e. e }
@@ -34,12 +28,7 @@ follows-noted q w e =
 pub follows-same : (p q : BoxPicture) (v : Picture) → q.notes.view ≡ p.notes.view → FollowsKept p v
     → FollowsKept q v
 unfolding kept_input kept_output kept_inputs kept_outputs
-follows-same p q v e f = record {
-  inputs_stay = rw e f.inputs_stay;
-  outputs_stay = rw e f.outputs_stay;
-  inputs = λ i lt. rw e (f.inputs i lt);
-  outputs = λ o lt. rw e (f.outputs o lt);
-}
+follows-same p q v e f = search arith
 
 -- as many ports as the last view had are those that the spec's ports stand still at
 pub position-still : (s : Option Spec) (kept : Option PortFlags) (m n : ℕ) → AreAsKept kept m n
@@ -59,14 +48,7 @@ as-kept-noted q w m n e ins outs = rw e (rw length-map (sym ins), sym outs)
 follows-input : (p : BoxPicture) (v : Picture) (i : ℕ) (g : Flags) (c : Option Table) → IsSound v
     → MaySee v (Input i) g c → InputFollows (kept_input p i) (input_at v i).flags
     → InputFollows (kept_input p i) g
-follows-input p v i g c sound may f = record {
-  needed = may.own_bits.0 ∙ f.needed;
-  fin_in = may.own_bits.1 ∙ f.fin_in;
-  fin_out = λ e. may.fin_out (f.fin_out e);
-  stays_empty = λ e d. may.stays_empty (f.fin_out e) (f.stays_empty e d);
-  stays_full = λ e. may.keeps_chunk (sound.held i (and_from _ _ (f.stays_full e)
-      (ap not f.fin_in ∙ (and_parts (kept_input p i).has_data _ e).1)));
-}
+follows-input p v i g c sound may f = search (arith, and_from)
 
 pub follows-seen-input : (p : BoxPicture) (v : Picture) (i : ℕ) (g : Flags) (c : Option Table) →
     IsSound v → MaySee v (Input i) g c → FollowsKept p v → FollowsKept p (after_see v (Input i) g c)
@@ -118,31 +100,13 @@ follows-seen-output p v o g may f =
 pub follows-new : (p : BoxPicture) (inputs outputs : ℕ) → p.notes ≡ no_notes
     → FollowsKept p (new_picture inputs outputs)
 unfolding kept_input kept_output kept_inputs kept_outputs input_at output_at in_count out_count
-follows-new p inputs outputs e = rw e record {
-  inputs_stay = omega arith;
-  outputs_stay = omega arith;
-  inputs =
-      λ i lt. rw (get_or-replicate inputs i new_input no_input (rw length-replicate at lt)) record {
-        needed = refl;
-        fin_in = refl;
-        fin_out = λ f. f;
-        stays_empty = λ f d. d;
-        stays_full = λ h. h;
-      };
-  outputs = λ o lt. rw (get_or-replicate outputs o no_flags over_flags (rw length-replicate at lt))
-      record { fin_out = refl; fin_in = λ f. f };
-}
+follows-new p inputs outputs e = search (arith, get_or-replicate, length-replicate)
 
 -- the view once actions were taken
 pub follows-taken : (p : BoxPicture) (v : Picture) (actions : List Action) → FollowsKept p v
     → FollowsKept p (with_actions v actions)
 unfolding with_actions input_at output_at in_count out_count
-follows-taken p v actions f = record {
-  inputs_stay = f.inputs_stay;
-  outputs_stay = f.outputs_stay;
-  inputs = f.inputs;
-  outputs = f.outputs;
-}
+follows-taken p v actions f = search arith
 
 -- the view once its first action was taken, if there was one
 pub follows-first : (p : BoxPicture) (v w : Picture) (a : Option Action) → TakesFirstAction v a w

@@ -74,9 +74,7 @@ pub is-gapless : (wires : List Wire) (n : ℕ)
     → ((e i : ℕ) → e < length wires → (wire_at wires e).to ≡ n → i < (wire_at wires e).input
     → has_input wires n i ≡ true) → ((e o : ℕ) → e < length wires → (wire_at wires e).from ≡ n
     → o < (wire_at wires e).out → has_output wires n o ≡ true) → is_gapless wires n ≡ true
-is-gapless wires n inputs outputs = and_from _ _
-    (all-follow (λ w. w.to) (λ w. w.input) wires n inputs)
-    (all-follow (λ w. w.from) (λ w. w.out) wires n outputs)
+is-gapless wires n inputs outputs = search (arith, and_from, all-follow)
 
 -- ---- the ports of a node are numbered from 0 up to their count
 
@@ -133,14 +131,7 @@ unfolding rank_at
 rank-kept ranks r n lt = get_or_append_left ranks (r ∷ []) 0 n lt
 
 edge-kept : (ranks : List ℕ) (r : ℕ) (w : Wire) → IsEdge ranks w → IsEdge (ranks ++ r ∷ []) w
-edge-kept ranks r w h = record {
-  from_in_range = omega (arith, h.from_in_range, length-append ranks (r ∷ []));
-  to_in_range = omega (arith, h.to_in_range, length-append ranks (r ∷ []));
-  ranked =
-      rw (rank-kept ranks r w.from h.from_in_range, rank-kept ranks r w.to h.to_in_range) h.ranked;
-  few_inputs = h.few_inputs;
-  few_outputs = h.few_outputs;
-}
+edge-kept ranks r w h = search (arith, length-append, rank-kept)
 
 -- a node is added
 pub node-added : (ranks : List ℕ) (wires : List Wire) (reserves : List Reserve) (r : ℕ)

@@ -16,17 +16,8 @@ pulled-more v w ins types h = record {
 
 pub makes-more : (s : Option Spec) (v w : Picture) (ins : Lists) (types : List ColumnType)
     → MakesTypes s ins types → MakesTypes s (with_pulled v w ins) types
-makes-more (Some (Spec.Filter c)) v w ins types h =
-    record { pulled = pulled-more v w ins types h.pulled; fits = h.fits }
-makes-more (Some (Spec.Expression items)) v w ins types h = record {
-  from = h.from;
-  pulled = pulled-more v w ins h.from h.pulled;
-  fits = h.fits;
-  is = h.is;
-}
 makes-more (Some Spec.Resize) v w ins types h = pulled-more v w ins types h
-makes-more (Some (Spec.Limit span)) v w ins types h = pulled-more v w ins types h
-makes-more s v w ins types h = h
+makes-more s v w ins types h = grind (arith, pulled-more)
 
 -- what is true of all chunks of a longer list is true of its front
 pub front-all : (P : Table → Type 0) (xs ys : List Table) → All P (xs ++ ys) → All P xs
@@ -110,9 +101,7 @@ pub wanting-not-enough : (s : Spec) (x : Reading) (own : OwnState) (worked fit o
     (worked i) (fit i)) → HasMade x s own fit outs wait → IsWanting (Some s) own.read
     → HasReadEnough (Some s) worked → ⊥
 wanting-not-enough (Spec.Limit span) x own worked fit outs wait are made wanting enough =
-    let same = ap (λ l. length (chunk_rows l)) (all-fitting _ (worked 0) (fit 0) (λ k d lt. tt)
-    (are 0)) in
-    omega (arith, made.read_are, wanting, enough, same)
+    search (arith, all-fitting)
 wanting-not-enough s x own worked fit outs wait are made wanting enough = enough
 
 -- ---- counts
@@ -124,29 +113,19 @@ pub total-append : (n : ℕ) (a b : Lists)
     → total_rows n (λ i. a i ++ b i) ≡ total_rows n a + total_rows n b
 unfolding total_rows
 total-append zero a b = refl
-total-append (suc n) a b =
-    let rest = total-append n a b in
-    let here = ap length (rows-append (a n) (b n))
-    ∙ length-append (chunk_rows (a n)) (chunk_rows (b n)) in
-    omega (arith, rest, here)
+total-append (suc n) a b = search (arith, rows-append, length-append, total-append n a b)
 
 -- nothing is there behind the first list
 pub total-first : (n : ℕ) (a : Lists) → ((i : ℕ) → 0 < i → a i ≡ [])
     → total_rows (suc n) a ≡ length (chunk_rows (a 0))
 unfolding total_rows
 total-first zero a e = omega arith
-total-first (suc n) a e =
-    let rest = total-first n a e in
-    let here = ap (λ l. length (chunk_rows l)) (e (suc n) (omega arith)) in
-    omega (arith, rest, here)
+total-first (suc n) a e = search (arith, total-first n a e)
 
 pub total-none : (n : ℕ) (a : Lists) → ((i : ℕ) → i < n → a i ≡ []) → total_rows n a ≡ 0
 unfolding total_rows
 total-none zero a e = refl
-total-none (suc n) a e =
-    let rest = total-none n a (λ i lt. e i (omega (arith, lt))) in
-    let here = ap (λ l. length (chunk_rows l)) (e n (omega arith)) in
-    omega (arith, rest, here)
+total-none (suc n) a e = search (arith, total-none n a (λ i lt. e i (omega (arith, lt))))
 
 pub total-nothing : (n : ℕ) (a : Lists) → ((i : ℕ) → a i ≡ []) → total_rows n a ≡ 0
 total-nothing n a e = total-none n a (λ i lt. e i)
@@ -170,12 +149,7 @@ counted-more p q v w ins on e h =
 -- enough that was read stays enough
 pub enough-more : (s : Option Spec) (v w : Picture) (ins : Lists) → HasReadEnough s ins
     → HasReadEnough s (with_pulled v w ins)
-enough-more (Some (Spec.Limit span)) v w ins h =
-    let more : length (chunk_rows (with_pulled v w ins 0))
-    ≡ length (chunk_rows (ins 0)) + length (chunk_rows (pulled_at v w 0)) =
-    ap length (rows-append (ins 0) (pulled_at v w 0))
-    ∙ length-append (chunk_rows (ins 0)) (chunk_rows (pulled_at v w 0)) in
-    omega (arith, more, h)
+enough-more (Some (Spec.Limit span)) v w ins h = search (arith, rows-append, length-append)
 enough-more s v w ins h = h
 
 -- a kind that notes an end never reads enough

@@ -1,5 +1,5 @@
 -- The flags that a box keeps are those of the view that its last prepare left.
-use Rattle.proc_api.proofs.Imports.{BoxPicture, Flags, InputPort, MayBeInput, None, Option, Picture, PortFlags, Some, all_port_flags, ap, arith, false, get_or, get_or-eq_default, get_or-map, get_or_default, in_count, inl, input_at, inr, kept_input, kept_inputs, kept_output, kept_outputs, kept_ports, length, length-map, map, no_flags, no_input, out_count, output_at, over_flags, refl, ℕ, ◌<◌, ◌∙◌, ◌≡◌, ◌≤◌, ◌⊎◌}
+use Rattle.proc_api.proofs.Imports.{BoxPicture, Flags, InputPort, MayBeInput, None, Option, Picture, PortFlags, Some, all_port_flags, ap, arith, false, get_or, get_or-eq_default, get_or-map, get_or_default, in_count, inl, input_at, inr, kept_input, kept_inputs, kept_output, kept_outputs, kept_ports, length, length-map, map, no_flags, out_count, output_at, over_flags, refl, ℕ, ◌<◌, ◌∙◌, ◌≡◌, ◌≤◌, ◌⊎◌}
 
 module _ (q : BoxPicture) (w : Picture) (e : q.notes.view ≡ Some (all_port_flags w)) where
   pub kept_inputs-of : kept_inputs q ≡ in_count w
@@ -12,11 +12,7 @@ module _ (q : BoxPicture) (w : Picture) (e : q.notes.view ≡ Some (all_port_fla
 
   pub kept_input-of : (i : ℕ) → i < in_count w → kept_input q i ≡ (input_at w i).flags
   unfolding kept_input in_count input_at
-  kept_input-of i lt =
-      let flags = λ (x : InputPort). x.flags in
-      ap (λ p. get_or (kept_ports p).inputs i no_flags) e
-      ∙ get_or_default (map flags w.inputs) i no_flags (flags no_input) (rw length-map lt)
-      ∙ get_or-map flags w.inputs i no_input (flags no_input) lt
+  kept_input-of i lt = search (arith, length-map, get_or-map)
 
   pub kept_input-past : (i : ℕ) → in_count w ≤ i → kept_input q i ≡ no_flags
   unfolding kept_input in_count

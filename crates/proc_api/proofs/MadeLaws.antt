@@ -14,8 +14,7 @@ same-rows : (m : ℕ) (few more : Lists) → ((j : ℕ) → j < m → more j ≡
 unfolding all_rows
 same-rows zero few more e = refl
 same-rows (suc m) few more e =
-    ap₂ (λ l xs. l ++ chunk_rows xs) (same-rows m few more (λ j lt. e j (omega (arith, lt))))
-    (e m (omega arith))
+    search (arith, same-rows m few more (λ j lt. e j (omega (arith, lt))))
 
 -- more chunks of one list are their rows more of all lists
 pub more-rows : (n i : ℕ) (few more : Lists) (xs : List Table) → more i ≡ few i ++ xs
@@ -49,16 +48,12 @@ no-rows (suc n) = ap (λ l. l ++ []) (no-rows n)
 take-more : (n : ℕ) (xs ys : List Row) → take n (xs ++ ys) ≡ take n xs ++ take (n - length xs) ys
 take-more zero xs ys = let e : 0 ≡ 0 - length xs = omega arith in ap (λ k. take k ys) e
 take-more (suc n) [] ys = let e : suc n ≡ suc n - 0 = omega arith in ap (λ k. take k ys) e
-take-more (suc n) (x ∷ xs) ys =
-    let e : n - length xs ≡ suc n - suc (length xs) = omega arith in
-    ap (λ l. x ∷ l) (take-more n xs ys ∙ ap (λ k. take n xs ++ take k ys) e)
+take-more (suc n) (x ∷ xs) ys = search (arith, take-more n xs ys)
 
 drop-more : (n : ℕ) (xs ys : List Row) → drop n (xs ++ ys) ≡ drop n xs ++ drop (n - length xs) ys
 drop-more zero xs ys = let e : 0 ≡ 0 - length xs = omega arith in ap (λ k. xs ++ drop k ys) e
 drop-more (suc n) [] ys = let e : suc n ≡ suc n - 0 = omega arith in ap (λ k. drop k ys) e
-drop-more (suc n) (x ∷ xs) ys =
-    let e : n - length xs ≡ suc n - suc (length xs) = omega arith in
-    drop-more n xs ys ∙ ap (λ k. drop n xs ++ drop k ys) e
+drop-more (suc n) (x ∷ xs) ys = search (arith, drop-more n xs ys)
 
 -- the rows of a span in a longer list
 span-more : (skip count : ℕ) (xs ys : List Row)
@@ -88,15 +83,4 @@ pub limited-more : (span : Span) (read : ℕ) (xs made : List Row) (t u : Table)
     → AreLimited span xs made read
     → AreLimited span (xs ++ t.rows) (made ++ u.rows) (min (read + length t.rows) last_read)
 limited-more span read xs made t u a b rows h =
-    let n : ℕ = length xs in
-    let front : List Row = take (span.skip + span.count - n) t.rows in
-    let short = length-take (span.skip + span.count - n) t.rows in
-    let first = within span.skip n t.rows (omega (arith, a)) in
-    let last = within (span.skip + span.count) n t.rows (omega (arith, a, b)) in
-    let behind = drop-within (span.skip - n) (length t.rows) front (omega (arith, short)) in
-    let cut = take_min (span.skip + span.count - n) t.rows in
-    let more = span-more span.skip span.count xs t.rows in
-    record {
-      read_are = (let l = length-append xs t.rows in let r = h.read_are in omega (arith, l, r));
-      made_are = cc;
-    }
+    search (arith, length-take, within, drop-within, take_min, span-more, length-append)

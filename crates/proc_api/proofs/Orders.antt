@@ -83,12 +83,10 @@ module _ (lt : Row → Row → Bool) (o : IsStrictWeakOrder lt) where
   )
 
   pub sorted-from_order : (xs : List Row) → InOrder lt xs → IsSortedBy lt xs
-  sorted-from_order [] h k d low high = absurd (omega arith)
-  sorted-from_order (x ∷ []) h k d low high = absurd (omega arith)
   sorted-from_order (x ∷ y ∷ xs) h zero d low high = h.0.0
   sorted-from_order (x ∷ y ∷ xs) h (suc k) d low high =
-      let next : suc k + 1 ≡ suc (k + 1) = omega arith in
-      rw next (sorted-from_order (y ∷ xs) h.1 k d (omega arith) (omega (arith, high)))
+      search (arith, sorted-from_order (y ∷ xs) h.1 k d (omega arith) (omega (arith, high)))
+  sorted-from_order _ h k d low high = absurd (omega arith)
 
   -- ---- an order of any rows
 

@@ -1,7 +1,7 @@
 -- The ports of edges on one side, where `node` and `port` tell at which node an edge is, and
 -- at which port. Where no two edges are at one port, and each port below one in use is in use, the
 -- ports of a node are numbered from 0 up to their count.
-use Rattle.proc_api.proofs.Imports.{Any-from_list_any, Bool, List, Wire, [], and_from, and_parts, ap, ap₂, arith, both_ways, cases_Bool, cases_lt, cond, cond_both, count_by, eq-eqb, eqb-true, false, false_from_ne_true, filter, get_or_default, inl, inr, le-length_from_below, length, length-filter, length-le_from_distinct_below, length-map, list_any, list_any_at, map, nat_eq_equiv, no_wire, recursion_from_All, refl, subst, suc, sym, true, wire_at, ℕ, ◌&&◌, ◌<◌, ◌==◌, ◌||◌, ◌∙◌, ◌∷◌, ◌≡◌, ◌≤◌}
+use Rattle.proc_api.proofs.Imports.{Any-from_list_any, Bool, List, Wire, [], and_from, and_parts, ap, arith, both_ways, cases_Bool, cases_lt, cond_both, count_by, eq-eqb, eqb-true, false_from_ne_true, filter, get_or_default, inl, inr, le-length_from_below, length, length-filter, length-le_from_distinct_below, length-map, list_any, list_any_at, map, no_wire, recursion_from_All, refl, subst, suc, sym, true, wire_at, ℕ, ◌&&◌, ◌<◌, ◌==◌, ◌||◌, ◌∙◌, ◌∷◌, ◌≡◌, ◌≤◌}
 use Rattle.std.specs.List.{IsDistinct}
 
 module _ (node port : Wire → ℕ) where
@@ -36,9 +36,7 @@ module _ (node port : Wire → ℕ) where
   pub port-of : (wires : List Wire) (e n k : ℕ) → e < length wires → node (wire_at wires e) ≡ n
       → port (wire_at wires e) ≡ k → has_port wires n k ≡ true
   unfolding wire_at
-  port-of wires e n k lt at is =
-      list_any_at (λ (w : Wire). (node w == n) && (port w == k)) wires e no_wire lt
-      (and_from _ _ (eq-eqb _ _ at) (eq-eqb _ _ is))
+  port-of wires e n k lt at is = search (arith, list_any_at, node, port, and_from, eq-eqb)
 
   -- the edges at a node, and their ports
   abbrev edges_at : List Wire → ℕ → List Wire
@@ -53,12 +51,7 @@ module _ (node port : Wire → ℕ) where
   ports-any : (wires : List Wire) (n k : ℕ)
       → list_any (λ j. k == j) (ports wires n) ≡ has_port wires n k
   ports-any [] n k = refl
-  ports-any (w ∷ wires) n k = elim (node w == n) as (λ t.
-      list_any (λ j. k == j) (map port (cond t (w ∷ edges_at wires n) (edges_at wires n)))
-      ≡ ((t && (port w == k)) || has_port wires n k)) [
-        | true ↦ ap₂ (λ a b. a || b) (nat_eq_equiv.symm k (port w)) (ports-any wires n k)
-        | false ↦ ports-any wires n k
-      ]
+  ports-any (w ∷ wires) n k = search (arith, node, port, ports-any wires n k)
 
   ports-distinct : (wires : List Wire) (n : ℕ) → ArePortsOnce wires
       → IsDistinct ◌==◌ (ports wires n)

@@ -1,12 +1,5 @@
 -- What is reserved stays apart as nodes, edges and reserves are added, and as a graph is finished.
-use Rattle.proc_api.proofs.Imports.{All, Bool, BoxPicture, IsEdge, IsGraphSoFar, List, Reserve, Wire, [], ap, arith, cases_lt, false, get_or, get_or-append_seam, get_or-map, get_or_append_left, inl, inr, length, length-append, length-map, map, map-append, nat_lt, no_box, no_wire, rank_at, refl, reserved_edges, subst, suc, sum_by-cons, sym, true, wire_at, ℕ, ◌&&◌, ◌++◌, ◌+◌, ◌-◌, ◌<◌, ◌||◌, ◌∙◌, ◌∷◌, ◌≡◌, ◌≢◌, ◌≤◌}
-use Rattle.std.specs.Prelude.{nat_le}
-use Rattle.std.proofs.lemmas.Bool.{le-leb, le-ltb, lt-leb, lt-ltb}
-use Rattle.std.proofs.lemmas.List.{get_or-append_right}
-use Rattle.std.proofs.lemmas.List.Folds.{list_any-append}
-use Rattle.std.proofs.lemmas.List.Sums.{sum_by_push}
-use Rattle.proc_api.specs.Clauses.{IsBlank, IsFresh}
-use Rattle.proc_api.specs.Reserves.{AreApart, AreReserves, AreStarting, IsAdded, StartsAs, behind_wires, holds_node, is_reserved, no_reserve}
+use Rattle.proc_api.proofs.Imports.{nat_le, le-leb, le-ltb, lt-leb, lt-ltb, get_or-append_right, list_any-append, sum_by_push, IsBlank, IsFresh, AreApart, AreReserves, AreStarting, IsAdded, StartsAs, behind_wires, holds_node, is_reserved, no_reserve, All, Bool, BoxPicture, IsEdge, IsGraphSoFar, List, Reserve, Wire, [], ap, arith, cases_lt, false, get_or, get_or-append_seam, get_or-map, get_or_append_left, inl, inr, length, length-append, length-map, map, map-append, nat_lt, no_box, no_wire, rank_at, refl, reserved_edges, subst, suc, sum_by-cons, sym, true, wire_at, ℕ, ◌&&◌, ◌++◌, ◌+◌, ◌-◌, ◌<◌, ◌||◌, ◌∙◌, ◌∷◌, ◌≡◌, ◌≢◌, ◌≤◌}
 unfoldable use Rattle.proc_api.specs.Reserves.{reserve_at}
 
 -- what holds at each place holds with one element more
@@ -63,15 +56,7 @@ module _ (nodes base : ℕ) (wires : List Wire) (rs : List Reserve)
     (h : AreReserves nodes base wires rs) where
   -- a node is added
   pub reserves-node : (more : ℕ) → nodes ≤ more → AreReserves more base wires rs
-  reserves-node more up = record {
-    growing = λ k lt. added-more nodes more _ rs up (h.growing k lt);
-    nodes_within = λ k lt. let old = h.nodes_within k lt in omega (arith, old, up);
-    edges_behind = h.edges_behind;
-    edges_within = h.edges_within;
-    apart = h.apart;
-    from_added = λ e lt. added-more nodes more _ rs up (h.from_added e lt);
-    to_added = λ e lt. added-more nodes more _ rs up (h.to_added e lt);
-  }
+  reserves-node more up = search (arith, added-more, nodes)
 
   -- an edge is added between two nodes that no reserve holds
   pub reserves-edge : (w : Wire) → IsAdded nodes rs w.from → IsAdded nodes rs w.to
@@ -95,11 +80,7 @@ module _ (nodes base : ℕ) (wires : List Wire) (rs : List Reserve)
       (new : (k : ℕ) → k < length rs → (reserve_at rs k).node ≢ r.node)
       (first : r.first_node ≡ nodes) (first_edge : r.first_edge ≡ base + reserved_edges rs) where
     kept : (n : ℕ) → IsAdded nodes rs n → IsAdded (nodes + r.nodes) (rs ++ r ∷ []) n
-    kept n a = record {
-      in_range = let lt = a.in_range in omega (arith, lt);
-      unreserved = not-with-one n rs r (let lt = a.in_range in omega (arith, lt, first))
-          ∙ a.unreserved;
-    }
+    kept n a = search (arith, not-with-one, first)
 
     abbrev edges : reserved_edges (rs ++ r ∷ []) ≡ reserved_edges rs + r.edges
     edges = sum_by_push (λ (q : Reserve). q.edges) rs r
@@ -156,29 +137,15 @@ unfolding rank_at
 ranks-kept ranks more n lt = get_or_append_left ranks more 0 n lt
 
 edge-kept : (ranks more : List ℕ) (w : Wire) → IsEdge ranks w → IsEdge (ranks ++ more) w
-edge-kept ranks more w h = record {
-  from_in_range = let lt = h.from_in_range in omega (arith, lt, length-append ranks more);
-  to_in_range = let lt = h.to_in_range in omega (arith, lt, length-append ranks more);
-  ranked = rw (
-    ranks-kept ranks more w.from h.from_in_range,
-    ranks-kept ranks more w.to h.to_in_range,
-  ) h.ranked;
-  few_inputs = h.few_inputs;
-  few_outputs = h.few_outputs;
-}
+edge-kept ranks more w h = search (arith, length-append, ranks-kept)
 
 -- nodes and edges are reserved
 pub graph-reserved : (ranks more : List ℕ) (wires : List Wire) (rs : List Reserve) (r : Reserve)
     → IsGraphSoFar ranks wires rs → length ranks + length more ≤ 256
     → length wires + reserved_edges rs + r.edges ≤ 1024
     → IsGraphSoFar (ranks ++ more) wires (rs ++ r ∷ [])
-graph-reserved ranks more wires rs r g nodes edges = record {
-  few_nodes = omega (arith, nodes, length-append ranks more);
-  few_edges = omega (arith, edges, sum_by_push (λ (q : Reserve). q.edges) rs r);
-  edges = λ e lt. edge-kept ranks more (wire_at wires e) (g.edges e lt);
-  inputs_once = g.inputs_once;
-  outputs_once = g.outputs_once;
-}
+graph-reserved ranks more wires rs r g nodes edges =
+    search (arith, length-append, sum_by_push, edge-kept)
 
 -- ---- a finished graph
 
@@ -190,20 +157,11 @@ behind-reserved w n (r ∷ rs) = ap (λ b. holds_node n r || b) (behind-reserved
 behind-edges : (w : ℕ) (rs : List Reserve)
     → reserved_edges (map (behind_wires w) rs) ≡ reserved_edges rs
 behind-edges w [] = refl
-behind-edges w (r ∷ rs) =
-    sum_by-cons (λ (q : Reserve). q.edges) (behind_wires w r) (map (behind_wires w) rs)
-    ∙ ap (λ n. r.edges + n) (behind-edges w rs)
-    ∙ sym (sum_by-cons (λ (q : Reserve). q.edges) r rs)
+behind-edges w (r ∷ rs) = search (arith, sum_by-cons, behind-edges w rs)
 
 pub graph-behind : (ranks : List ℕ) (wires : List Wire) (rs : List Reserve) (w : ℕ)
     → IsGraphSoFar ranks wires rs → IsGraphSoFar ranks wires (map (behind_wires w) rs)
-graph-behind ranks wires rs w g = record {
-  few_nodes = g.few_nodes;
-  few_edges = rw (behind-edges w rs) g.few_edges;
-  edges = g.edges;
-  inputs_once = g.inputs_once;
-  outputs_once = g.outputs_once;
-}
+graph-behind ranks wires rs w g = search (arith, behind-edges)
 
 -- the reserved edges follow the wires
 pub reserves-behind : (nodes w : ℕ) (wires : List Wire) (rs : List Reserve)
@@ -230,10 +188,7 @@ reserves-behind nodes w wires rs h = record {
   to_added = λ e lt. same _ (h.to_added e lt);
 } where
   same : (n : ℕ) → IsAdded nodes rs n → IsAdded nodes (map (behind_wires w) rs) n
-  same n a = record {
-    in_range = a.in_range;
-    unreserved = behind-reserved w n rs ∙ a.unreserved;
-  }
+  same n a = search (arith, behind-reserved)
 
   at : (k : ℕ) → k < length (map (behind_wires w) rs) → (P : Reserve → Type 0)
       → (k < length rs → P (behind_wires w (reserve_at rs k)))
@@ -295,7 +250,3 @@ module _ {A : Type 0} (view : A → BoxPicture) (rs : List Reserve) (xs : List A
   pub starting-behind : (w : ℕ) (all : List Reserve) → all ≡ map (behind_wires w) rs
       → AreStarting all (map view xs)
   starting-behind w all e n lt = rw (e, behind-reserved w n rs) (h n lt)
-
--- where nothing is reserved, all are fresh
-pub starting-all : (boxes : List BoxPicture) → All IsFresh boxes → AreStarting [] boxes
-starting-all boxes fresh n lt = fresh n no_box lt

@@ -1,6 +1,6 @@
 -- What several calls of a view pull and push: over two steps it is what the first did, and then
 -- what the second did.
-use Rattle.proc_api.proofs.Imports.{Action, Bool, ChangedByCalls, Close, Finish, Flags, InputPort, IsSound, List, Lists, None, Option, Picture, PortCall, Pull, Push, Table, [], after_call, after_calls, and_parts, ap, append-nil, append_assoc, both_ways, can_push, cases_lt, close_call, closed, cond, cond_both, emptied, false, finish_call, get_or, holds_data, in_count, in_count-with_input, inl, input_at, input_at-with_input, input_at-with_input-other, inr, is_out_finished, need_call, no_input, not, not-true, noted_want, out_count, out_count-with_output, output_at, output_at-with_output, output_at-with_output-other, over_flags, pull_call, pulled_at, push_call, pushed_at, pushes_to, refl, rows_pulled, set_past, subst, sym, taken_out, total_rows, true, with_actions, with_input, with_needed, with_output, with_pulled, with_pushed, ℕ, ◌++◌, ◌+◌, ◌||◌, ◌∙◌, ◌∷◌, ◌≡◌, ◌≢◌, ◌⊎◌}
+use Rattle.proc_api.proofs.Imports.{Action, Bool, ChangedByCalls, Close, Finish, Flags, InputPort, IsSound, List, Lists, None, Option, Picture, PortCall, Pull, Push, Table, [], after_call, after_calls, and_parts, ap, append-nil, append_assoc, arith, both_ways, can_push, cases_lt, close_call, closed, cond, cond_both, emptied, false, finish_call, get_or, holds_data, in_count, in_count-with_input, inl, input_at, input_at-with_input, input_at-with_input-other, inr, is_out_finished, need_call, no_input, not, not-true, noted_want, out_count, out_count-with_output, output_at, output_at-with_output, output_at-with_output-other, over_flags, pull_call, pulled_at, push_call, pushed_at, pushes_to, refl, rows_pulled, set_past, subst, sym, taken_out, total_rows, true, with_actions, with_input, with_needed, with_output, with_pulled, with_pushed, ℕ, ◌++◌, ◌+◌, ◌||◌, ◌∙◌, ◌∷◌, ◌≡◌, ◌≢◌, ◌⊎◌}
 use Rattle.proc_api.proofs.CallLaws.{no-pushes, pushes_to-noted_want, taken_out-same}
 use Rattle.proc_api.proofs.Keeping.{total-append}
 use Rattle.proc_api.proofs.ShutPorts.{by-place}
@@ -101,9 +101,7 @@ one-call (finish_call o) p = cond_both (is_out_finished (output_at p o)) p _ (Sh
 
 goes-calls : (calls : List PortCall) (p : Picture) → ShowsSame p (after_calls calls p)
 goes-calls [] p = goes-none p
-goes-calls (c ∷ calls) p =
-    goes-both p (after_call c p) (after_calls calls (after_call c p)) (one-call c p)
-    (goes-calls calls (after_call c p))
+goes-calls (c ∷ calls) p = search (arith, goes-both, one-call, goes-calls calls (after_call c p))
 
 pub goes-on : (v w : Picture) → ChangedByCalls v w → ShowsSame v w
 goes-on v w c = subst (ShowsSame v) (sym c.gives) (goes-calls c.calls v)
@@ -113,9 +111,7 @@ goes-on v w c = subst (ShowsSame v) (sym c.gives) (goes-calls c.calls v)
 taken-both : (a b c : Option Table) → (b ≡ a) ⊎ (b ≡ None) → (c ≡ b) ⊎ (c ≡ None)
     → taken_out a c ≡ taken_out a b ++ taken_out b c
 taken-both a b c (inl e) y = rw e (ap (λ l. l ++ taken_out a c) (sym (taken_out-same a)))
-taken-both a b c (inr none) y =
-    let gone : c ≡ None = elim y [ inl e ↦ e ∙ none | inr e ↦ e ] in
-    rw (none, gone) (sym (append-nil (taken_out a None)))
+taken-both a b c (inr none) y = search (arith, append-nil)
 
 module _ (v u w : Picture) (sound : IsSound u) (a : ChangedByCalls v u)
     (b : ChangedByCalls u w) where
@@ -137,14 +133,10 @@ module _ (v u w : Picture) (sound : IsSound u) (a : ChangedByCalls v u)
       go false false x y = ap (λ l. l ++ pushes w) (sym (no-pushes u o sound y))
 
   pub lists-pulled : (ins : Lists) → with_pulled u w (with_pulled v u ins) ≡ with_pulled v w ins
-  lists-pulled ins = λ k i.
-      (append_assoc (ins i) (pulled_at v u i) (pulled_at u w i)
-      ∙ ap (λ l. ins i ++ l) (sym (pulled-both i))) k
+  lists-pulled ins = search (arith, append_assoc, pulled-both)
 
   pub lists-pushed : (outs : Lists) → with_pushed u w (with_pushed v u outs) ≡ with_pushed v w outs
-  lists-pushed outs = λ k o.
-      (append_assoc (outs o) (pushed_at v u o) (pushed_at u w o)
-      ∙ ap (λ l. outs o ++ l) (sym (pushed-both o))) k
+  lists-pushed outs = search (arith, append_assoc, pushed-both)
 
   pub rows-both : rows_pulled v w ≡ rows_pulled v u + rows_pulled u w
   rows-both =

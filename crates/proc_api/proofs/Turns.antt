@@ -1,6 +1,6 @@
 -- What each call of a view changes, port by port. A processor's proof takes these in the place of
 -- the calls' pictures.
-use Rattle.proc_api.proofs.Imports.{Action, Bool, Close, Finish, Flags, InputPort, List, Picture, Pull, Push, Table, [], after_close, after_finish, after_need, after_pull, after_push, ap, append-nil, can_push, closed, cond, cond_both, emptied, eq-eqb, false, holds_data, in_count, in_count-with_input, in_count-with_output, input_at, input_at-with_input, input_at-with_input-other, input_at-with_output, is_out_finished, ne_eqb, not-true, noted, noted_want, out_count, out_count-with_input, out_count-with_output, output_at, output_at-with_input, output_at-with_output, output_at-with_output-other, pushes_to, refl, sym, true, with_actions, with_input, with_needed, with_output, ℕ, ◌++◌, ◌<◌, ◌||◌, ◌∙◌, ◌∷◌, ◌≡◌, ◌≢◌}
+use Rattle.proc_api.proofs.Imports.{arith, Action, Bool, Close, Finish, Flags, InputPort, List, Picture, Pull, Push, Table, [], after_close, after_finish, after_need, after_pull, after_push, ap, append-nil, can_push, closed, cond, cond_both, emptied, eq-eqb, false, holds_data, in_count, in_count-with_input, in_count-with_output, input_at, input_at-with_input, input_at-with_input-other, input_at-with_output, is_out_finished, ne_eqb, not-true, noted, noted_want, out_count, out_count-with_input, out_count-with_output, output_at, output_at-with_input, output_at-with_output, output_at-with_output-other, pushes_to, refl, sym, true, with_actions, with_input, with_needed, with_output, ℕ, ◌++◌, ◌<◌, ◌||◌, ◌∙◌, ◌∷◌, ◌≡◌, ◌≢◌}
 use Rattle.proc_api.proofs.CallLaws.{pushes_to-append, pushes_to-noted_want}
 
 -- input i alone is changed, to x, and nothing is pushed
@@ -24,14 +24,7 @@ pub record TurnsOutput (p : Picture) (o : ℕ) (f : Flags) (chunks : List Table)
   pub other_pushes : (j : ℕ) → j ≢ o → pushes_to j q.actions ≡ pushes_to j p.actions
 
 same-input : (p : Picture) (i : ℕ) (x : InputPort) → input_at p i ≡ x → TurnsInput p i x p
-same-input p i x e = record {
-  here = e;
-  others = λ j ne. refl;
-  outputs = λ o. refl;
-  ins = refl;
-  outs = refl;
-  pushes = λ o. refl;
-}
+same-input p i x e = search arith
 
 -- input i is set to x, and the actions become others that push the same
 set-input : (p : Picture) (i : ℕ) (x : InputPort) (actions : List Action) → i < in_count p
@@ -104,19 +97,10 @@ need-turns p i false lt = cond_both _ _ _ (TurnsInput p i (needing (input_at p i
 pub pull-turns : (p : Picture) (i : ℕ) → i < in_count p → holds_data (input_at p i).flags ≡ true
     → TurnsInput p i (emptied (input_at p i)) (after_pull p i)
 unfolding pushes_to
-pull-turns p i lt h =
-    rw h (noted-input p i (emptied (input_at p i)) (Pull i) lt (λ o. refl))
+pull-turns p i lt h = rw h (noted-input p i (emptied (input_at p i)) (Pull i) lt (λ o. refl))
 
 same-output : (p : Picture) (o : ℕ) (f : Flags) → output_at p o ≡ f → TurnsOutput p o f [] p
-same-output p o f e = record {
-  here = e;
-  others = λ j ne. refl;
-  inputs = λ i. refl;
-  ins = refl;
-  outs = refl;
-  pushes = sym (append-nil (pushes_to o p.actions));
-  other_pushes = λ j ne. refl;
-}
+same-output p o f e = search (arith, append-nil)
 
 noted-output : (p : Picture) (o : ℕ) (f : Flags) (a : Action) → o < out_count p
     → ((j : ℕ) → j ≢ o → pushes_to j (a ∷ []) ≡ [])
@@ -158,21 +142,6 @@ finish-turns p o lt = cond_both _ _ _ (TurnsOutput p o (finishing (output_at p o
     (λ e. same-output p o (finishing (output_at p o))
     (ap (λ t. cond t (output_at p o) (record (output_at p o) { fin_out = true })) (sym e))) (λ e. rw
     e (noted-output p o (record (output_at p o) { fin_out = true }) (Finish o) lt (λ j ne. refl)))
-
--- what asking leaves of an input
-pub record LeavesInput (x y : InputPort) : Type 0 where
-  pub chunk : y.chunk ≡ x.chunk
-  pub has_data : y.flags.has_data ≡ x.flags.has_data
-  pub fin_out : y.flags.fin_out ≡ x.flags.fin_out
-  pub fin_in : y.flags.fin_in ≡ x.flags.fin_in
-
-pub needing-leaves : (x : InputPort) (b : Bool) → LeavesInput x (needing x b)
-needing-leaves x b = cond_both x.flags.fin_in x (with_needed x b) (LeavesInput x)
-    (λ e. record { chunk = refl; has_data = refl; fin_out = refl; fin_in = refl })
-    (λ e. record { chunk = refl; has_data = refl; fin_out = refl; fin_in = refl })
-
-pub needing-needs : (x : InputPort) → x.flags.fin_in ≡ false → (needing x true).flags.needed ≡ true
-needing-needs x e = ap (λ t. (cond t x (with_needed x true)).flags.needed) e
 
 pub finishing-leaves : (f : Flags) → (finishing f).fin_in ≡ f.fin_in
 finishing-leaves f = cond_both (is_out_finished f) f (record f { fin_out = true })

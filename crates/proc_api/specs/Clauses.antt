@@ -1,6 +1,6 @@
 -- The clauses of a processor's calls, over what is seen of the box before and after a call.
 use Rattle.std.specs.Prelude.{◌+◌, ◌<◌, ◌≡◌, ◌≢◌, ◌≤◌, ◌⊎◌}
-use Rattle.proc_api.specs.Prelude.{Answer, Files, Growth, IfSome, InputPort, IsAllFinished, IsSome, IsTrue, Kind, List, LoadRefusal, None, Option, Picture, Prepared, Scheduled, Some, Spec, Status, WaitsForData, WaitsForRoom, Wake, WorkFault, [], bad_line_in, false, file_bytes, kind_of, length, map, out_count, part_bad_place, true, ℕ, ⊤}
+use Rattle.proc_api.specs.Prelude.{Answer, Files, Growth, IfSome, InputPort, IsAllFinished, IsSome, IsTrue, Kind, List, LoadRefusal, None, Option, PartSpec, Picture, Prepared, Scheduled, Some, Spec, Status, WaitsForData, WaitsForRoom, Wake, WorkFault, [], bad_line_in, false, file_bytes, kind_of, length, map, out_count, part_bad_place, true, ℕ, ⊤}
 use Rattle.query_model.specs.declared.processor_spec.Kind.TheVariants as kind
 use Rattle.proc_api.specs.declared.status.Wake.TheVariants as wake
 use Rattle.proc_api.specs.declared.status.WorkFault.TheVariants as fault
@@ -10,6 +10,7 @@ use Rattle.proc_api.specs.Histories.{Lists, chunk_rows, no_lists, pulled_at, rai
 use Rattle.proc_api.specs.Keeping.{Keeps}
 use Rattle.proc_api.specs.Ports.{AllOutputsFinished, HasNoRoom, HasPorts, HasRoom, IsShut, SameChunks, StaysFit}
 use Rattle.proc_api.specs.SpecContracts.{HasReadEnough, IsWanting, MayGrow, OfPart}
+use Rattle.proc_api.specs.kinds.Csv.{ArePartBytes}
 
 -- ---- what stays
 
@@ -309,6 +310,14 @@ abbrev pub WakeComes : Wake → BoxPicture → BoxPicture → Type 0
 WakeComes wake.Later p q = OpensPath p q ⊎ FetchesBlock p q
 WakeComes wake.Ready p q = FetchesEnd p q
 
+-- The reader of a source stands in its file behind the bytes that it gave; once the file is fetched
+-- whole, these are all of them.
+pub record StandsBehind (p : BoxPicture) (position : Option (List ℕ × ℕ)) (part : PartSpec) : Type 0
+  where
+    pub at : position ≡ Some (part.path, p.notes.given)
+    pub whole : p.work.fetched ≡ true
+        → (bytes : List ℕ) × ArePartBytes p.files part.path bytes × (length bytes ≡ p.notes.given)
+
 -- a schedule without a fault
 pub record Schedules (a : Wake) (p q : BoxPicture) : Type 0 where
   pub view : q.notes.view ≡ p.notes.view
@@ -335,15 +344,18 @@ pub record Expands (g : Growth) (p q : BoxPicture) : Type 0 where
 
 -- ---- faults
 
--- What is true of every box that keeps a fault. Want of memory is free.
+-- What is true of every box that keeps a fault: where its reader tells files, bad data are where
+-- they are in that of its part, or of its list. Want of memory is free.
 abbrev pub FaultHolds : Option WorkFault → BoxPicture → Type 0
 FaultHolds None p = ⊤
 FaultHolds (Some fault.Memory) p = ⊤
 FaultHolds (Some fault.Read) p = 0 < p.notes.faults
 FaultHolds (Some fault.Stalled) p = 1000000 ≤ p.notes.pendings
 FaultHolds (Some fault.TooLong) p = 1073741824 < p.notes.given
-FaultHolds (Some (fault.Bad place)) p = p.kind ≡ kind.Csv
-FaultHolds (Some (fault.BadList line)) p = p.kind ≡ kind.List
+FaultHolds (Some (fault.Bad place)) p = (p.kind ≡ kind.Csv) × IfSome p.files (λ files.
+    OfPart p.spec (λ part. part_bad_place part.header part.types files part.path ≡ Some place))
+FaultHolds (Some (fault.BadList line)) p = (p.kind ≡ kind.List) × IfSome p.files (λ files.
+    OfPart p.spec (λ part. bad_line_in (file_bytes files part.path) ≡ Some line))
 
 -- the file has more bytes than a part or list may have
 pub record IsLongFile (files : Files) (path : List ℕ) : Type 0 where
@@ -351,18 +363,16 @@ pub record IsLongFile (files : Files) (path : List ℕ) : Type 0 where
   pub are : file_bytes files path ≡ Some bytes
   pub long : 1073741824 < length bytes
 
--- What is true besides of a lawful box that keeps a fault, by the files that its reader tells.
+-- What is true besides of a lawful box that keeps a fault.
 abbrev pub FaultIsDue : Option WorkFault → BoxPicture → Type 0
 FaultIsDue None p = ⊤
 FaultIsDue (Some fault.Memory) p = ⊤
 FaultIsDue (Some fault.Read) p = ⊤
 FaultIsDue (Some fault.Stalled) p = p.notes.pendings ≡ 1000000
 FaultIsDue (Some fault.TooLong) p =
-    OfPart p.spec (λ part. IfSome p.files (λ files. IsLongFile files part.path))
-FaultIsDue (Some (fault.Bad place)) p = OfPart p.spec (λ part. IfSome p.files
-    (λ files. part_bad_place part.header part.types files part.path ≡ Some place))
-FaultIsDue (Some (fault.BadList line)) p = OfPart p.spec
-    (λ part. IfSome p.files (λ files. bad_line_in (file_bytes files part.path) ≡ Some line))
+    IfSome p.files (λ files. OfPart p.spec (λ part. IsLongFile files part.path))
+FaultIsDue (Some (fault.Bad place)) p = ⊤
+FaultIsDue (Some (fault.BadList line)) p = ⊤
 
 -- A read fault comes only in a call in which the reader's faults rose.
 abbrev pub FaultInCall : WorkFault → BoxPicture → BoxPicture → Type 0

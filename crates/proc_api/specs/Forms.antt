@@ -1,5 +1,5 @@
 -- Specs and growths apart from where their boxes lie, since a copy has boxes of its own.
-use Rattle.proc_api.specs.Prelude.{Edge, ExprOf, Formula, GrowNode, Growth, List, Spec, formula, map, ℕ}
+use Rattle.proc_api.specs.Prelude.{Edge, ExprOf, Formula, GrowNode, Growth, Kind, List, Spec, formula, kind_of, map, ℕ}
 use Rattle.query_model.specs.Formulas.{CondForm, OperandForm, cond_form}
 
 -- what has boxes by its form, and every other spec as it is
@@ -12,6 +12,11 @@ abbrev pub spec_form : Spec → SpecForm
 spec_form (Spec.Filter c) = filter (cond_form c)
 spec_form (Spec.Expression items) = expression (map (λ (e : ExprOf ℕ). formula e) items)
 spec_form s = unboxed s
+
+abbrev pub form_kind : SpecForm → Kind
+form_kind (filter c) = Kind.Filter
+form_kind (expression items) = Kind.Expression
+form_kind (unboxed s) = kind_of s
 
 pub record GrowthForm : Type 0 where
   pub specs : List SpecForm

@@ -1,7 +1,7 @@
 -- The names of this crate's definitions in one place: who needs several of its files imports from
 -- here.
 pub use Rattle.proc_api.specs.Boxes.{BoxPicture, FileSeen, Notes, OwnState, PortFlags, Reading, RowCount, WorkState, file_of, idle_own, idle_work, kept_ports, no_box, no_notes, own_of, reading_of, unworked_at}
-pub use Rattle.proc_api.specs.Clauses.{CountsOn, EndsAtOnce, Expands, FaultHolds, FaultInCall, FaultIsDue, Faults, HasNoReader, IsBadFile, IsBlank, IsFresh, IsLoadRefused, IsLongFile, IsRunning, IsSourceKind, IsToGrow, IsToWork, IsUnloadedProcessor, KeepsLimits, KeepsOver, KeepsSame, KeepsUnlessOut, Loads, MayBeReady, MayExpand, MaySchedule, MayWork, NeedsRoom, NotesView, PreparesLawfully, Progresses, PulledOn, PullsNoMore, SameBox, SameCounts, SamePulled, Schedules, StatusComes, StatusHolds, UnlessStalled, UnlessTooLong, Unloads, WakeComes, Works, all_port_flags}
+pub use Rattle.proc_api.specs.Clauses.{CountsOn, EndsAtOnce, Expands, FaultHolds, FaultInCall, FaultIsDue, Faults, HasNoReader, IsBadFile, IsBlank, IsFresh, IsLoadRefused, IsLongFile, IsRunning, IsSourceKind, IsToGrow, IsToWork, IsUnloadedProcessor, KeepsLimits, KeepsOver, KeepsSame, KeepsUnlessOut, Loads, MayBeReady, MayExpand, MaySchedule, MayWork, NeedsRoom, NotesView, PreparesLawfully, Progresses, PulledOn, PullsNoMore, SameBox, SameCounts, SamePulled, Schedules, StandsBehind, StatusComes, StatusHolds, UnlessStalled, UnlessTooLong, Unloads, WakeComes, Works, all_port_flags}
 pub use Rattle.proc_api.specs.Forms.{GrowthForm, SpecForm, expression, filter, spec_form, unboxed}
 pub use Rattle.proc_api.specs.Graphs.{IsEdge, IsGraph, IsGraphSoFar, all_below, follows_inputs, follows_outputs, has_input, has_output, input_count, is_gapless, output_count, reserved_edges}
 pub use Rattle.proc_api.specs.Grouped.{AreGrouped, FitsGroups, SumsNoTexts, argument_types, calls_from, default_states, is_count, merged_rows, merged_states, partial_rows, partial_types, spec_group_types, sums_texts}

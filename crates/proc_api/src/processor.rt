@@ -1,5 +1,5 @@
 ghost use Rattle.std.specs.Prelude.{◌≡◌, ◌≢◌, ◌⊎◌};
-ghost use Rattle.proc_api.specs.Names.{BoxPicture, ChangedByCalls, CountsOn, Expands, Faults, FollowsKept, HasNoReader, IfErr, IfOk, IsLoadRefused, IsRunning, IsSourceKind, IsToGrow, IsToWork, IsTrue, KeepsLimits, KeepsUnlessOut, List, Loads, MaySchedule, None, NotesView, OnOk, Option, PreparesLawfully, PulledOn, SameBox, SameCounts, SamePulled, Schedules, Unloads, Works, false, handed_out_by, row_of, ℕ};
+ghost use Rattle.proc_api.specs.Names.{BoxPicture, ChangedByCalls, CountsOn, Expands, Faults, FollowsKept, HasNoReader, IfErr, IfOk, IsLoadRefused, IsRunning, IsSourceKind, IsToGrow, IsToWork, IsTrue, KeepsLimits, KeepsUnlessOut, List, Loads, MaySchedule, None, NotesView, OfPart, OnOk, Option, PreparesLawfully, PulledOn, SameBox, SameCounts, SamePulled, Schedules, StandsBehind, Unloads, Works, false, handed_out_by, row_of, ℕ};
 
 use crate::growth::Growth;
 use crate::status::{LoadRefusal, Status, Wake, WorkFault};
@@ -64,6 +64,8 @@ pub trait Processor: Drop + Send {
         ensures counts { CountsOn (seen self.old) (seen self.new) }
         ensures pulled { SamePulled (seen self.old) (seen self.new) }
         ensures ok { IfOk result (λ wake. Schedules wake (seen self.old) (seen self.new)) }
+        ensures placed { IsTrue (seen self.old).lawful → IfOk result (λ wake. OfPart
+            (seen self.new).spec (StandsBehind (seen self.new) (position self.new))) }
         ensures fault { IfErr result (λ f. Faults f (seen self.old) (seen self.new)) }
         ensures limits { IsTrue (seen self.old).lawful
             → KeepsLimits (seen self.old) (seen self.new) };

@@ -465,10 +465,10 @@ works k d count p q (Ok u) run w = works-part k d count p q w run
 module _ (k : Kind) (d : Option ReaderView) (count : RowCount) (p q : LoadedShell) (f : WorkFault)
     (x : ShellFails f p q) where
   -- a fault of a work, which is kept
-  fails-part : p.kernel.kind ≡ k → Fails p.kernel f → FaultIsDue (Some f) (loaded_seen k d count p)
+  fails-part : Fails p.kernel f → FaultHolds (Some f) (loaded_seen k d count p)
       → p.kernel.stage.handed_out ≡ false
       → Faults f (loaded_seen k d count p) (loaded_seen k d count q)
-  fails-part of why due out =
+  fails-part why due out =
       record {
         same = record {
           view = ap (λ n. n.view) x.notes;
@@ -484,26 +484,26 @@ module _ (k : Kind) (d : Option ReaderView) (count : RowCount) (p q : LoadedShel
         is_due = λ lawful. (told f why due).2;
       }
     where
-      still : (g : WorkFault) → FaultIsDue (Some g) (loaded_seen k d count p)
-          → FaultIsDue (Some g) (record (loaded_seen k d count p) { spec = Some q.kernel.spec })
-      still g = subst (λ s. FaultIsDue (Some g)
+      still : (g : WorkFault) → FaultHolds (Some g) (loaded_seen k d count p)
+          → FaultHolds (Some g) (record (loaded_seen k d count p) { spec = Some q.kernel.spec })
+      still g = subst (λ s. FaultHolds (Some g)
           (record (loaded_seen k d count p) { spec = Some s }))
           (sym (ap (λ z. z.spec) x.kernel))
 
-      told : (g : WorkFault) → Fails p.kernel g → FaultIsDue (Some g) (loaded_seen k d count p)
+      told : (g : WorkFault) → Fails p.kernel g → FaultHolds (Some g) (loaded_seen k d count p)
           → FaultInCall g (loaded_seen k d count p) (loaded_seen k d count q)
           × FaultHolds (Some g) (loaded_seen k d count q)
           × FaultIsDue (Some g) (loaded_seen k d count q)
       told fault.Memory y z = (tt, tt, tt)
-      told (fault.Bad place) y z = (tt, sym of ∙ y.0, still (fault.Bad place) z)
-      told (fault.BadList line) y z = (tt, sym of ∙ y.0, still (fault.BadList line) z)
+      told (fault.Bad place) y z = (tt, still (fault.Bad place) z, tt)
+      told (fault.BadList line) y z = (tt, still (fault.BadList line) z, tt)
       told g y z = absurd y
 
 pub fails : (k : Kind) (d : Option ReaderView) (count : RowCount) (p q : LoadedShell)
-    (r : Result (Unit {0}) WorkFault) → p.kernel.kind ≡ k → IsRunning (loaded_seen k d count p)
+    (r : Result (Unit {0}) WorkFault) → IsRunning (loaded_seen k d count p)
     → IfErr r (λ f. ShellFails f p q) → IfErr r (Fails p.kernel)
-    → ((f : WorkFault) → Fails p.kernel f → FaultIsDue (Some f) (loaded_seen k d count p))
+    → ((f : WorkFault) → Fails p.kernel f → FaultHolds (Some f) (loaded_seen k d count p))
     → IfErr r (λ f. Faults f (loaded_seen k d count p) (loaded_seen k d count q))
-fails k d count p q (Ok u) of run w why due = tt
-fails k d count p q (Err f) of run w why due =
-    fails-part k d count p q f w of why (due f why) run.not_handed_out
+fails k d count p q (Ok u) run w why due = tt
+fails k d count p q (Err f) run w why due =
+    fails-part k d count p q f w why (due f why) run.not_handed_out

@@ -7,7 +7,7 @@ pub use Rattle.proc_api.proofs.KeptFlags.{kept_input-of, kept_input-past, kept_i
 pub use Rattle.proc_api.proofs.MadeLaws.{more-rows, no-rows}
 pub use Rattle.proc_api.proofs.SeveralCalls.{empty-of, goes-on, lists-pulled, lists-pushed, pulled-both, rows-both}
 pub use Rattle.proc_api.proofs.ShutPorts.{both-same, by-place}
-pub use Rattle.proc_api.proofs.Turns.{close-turns, need-turns, needing-leaves, needing-needs, pull-turns, push-turns}
+pub use Rattle.proc_api.proofs.Turns.{close-turns, need-turns, pull-turns, push-turns}
 pub use Rattle.proc_api.specs.Names.{AllInputsEnded, AllOutputsClosed, AreCounts, AreFitting, AreOpen, AreResized, FaultHolds, FileSeen, FaultInCall, FaultIsDue, Faults, GrowthForm, HadPorts, HasMade, HasNotedEnd, HasRoom, HasSize, IsAtMost, IsBadFile, IsFirstAlone, IsLoadRefused, IsOver, IsReadUp, IsRunning, IsShut, IsSourceKind, IsWanting, Keeps, KeepsLimits, KeepsMade, KeepsOver, KeepsRows, KeepsSame, Loads, MayBeReady, MayExpand, NeedsRoom, Notes, NotesView, OfPart, PreparesLawfully, Progresses, PullsNoMore, Reading, RowCount, StatusComes, StatusHolds, StaysFit, WorkState, Works, file_of, idle_own, is_ended, list_growth, most_rows, own_of, reading_of, row_of, unworked_at}
 pub use Rattle.proc_api.specs.declared.status.Status.TheVariants.{Finished, NeedData, Ready}
 pub use Rattle.proc_shell.specs.Kernels.{HasEnough, HasSamePorts, Leaves, LetsPush, Means, NotesNoEnd, SourceStage, gathered_own, gathered_with, gathering, part_kernel, rows_if_some, unread, with_chunk}

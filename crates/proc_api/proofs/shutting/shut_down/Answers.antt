@@ -8,6 +8,4 @@ loop-i-preserved c =
     (omega (arith, c.inputs-i-end.ensures.count)) c.close.ensures c.loop-i.invariant
 
 pub returns-clause-changed : goal.returns-clause-changed
-returns-clause-changed c =
-    changed-by-both c.args.view.now c.loop-i.view c.finish_all.new.view c.loop-i.invariant.changed
-    c.finish_all.ensures.changed
+returns-clause-changed c = search (arith, changed-by-both)

@@ -25,9 +25,10 @@ returns-clause-fault g c =
     rw (← c.self.view_is, c.in-Some.is) (fails K.kind_is
     (reads r.files r.faults r.pendings) c.self.inside.pulled
     (shell_state (K.state l.kernel) l.held l.notes) (shell_state (K.state m.kernel) m.held m.notes)
-    c.work.result (g.met.K.Kernel.of_kind l.kernel).0 running c.work.ensures.fault
+    c.work.result running c.work.ensures.fault
     c.work.ensures.fails
     (rw shows (fault-told r.files r.position r.faults r.pendings K.kind_is
     c.self.inside.pulled F.lists (F.part_of l.kernel) (F.file_of l.kernel) l.held l.notes
+    g.met.K.FileKernel.kinds
     (tied-now r.files r.position F.lists (F.part_of l.kernel) (F.file_of l.kernel) l.held
     l.notes (rw (c.in-Some.is, shows) at c.self.invariant) running.faultless))))
