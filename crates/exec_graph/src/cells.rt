@@ -1,6 +1,6 @@
 ghost use Rattle.std.specs.Prelude.{◌≡◌, ◌≤◌, length, map, IfErr, IfOk};
 ghost use Rattle.proc_api.specs.Reserves.{AreStarting};
-ghost use Rattle.node_cells.specs.NewCells.{AreNewCells, sizes_of};
+ghost use Rattle.node_cells.specs.NewCells.{AreNewCells, AreNewReserves, sizes_of};
 
 use crate::graph::Graph;
 use node_cells::{Cells, make_cells};
@@ -19,15 +19,17 @@ impl Graph {
         ensures cells { IfOk result (λ c. AreNewCells (λ b. seen b)
             (sizes_of (length self.boxes.items) self.wires self.reserves workers)
             self.boxes.items c) }
+        ensures reserves { IfOk result (λ c. AreNewReserves self.ranks self.reserves
+            (map (λ b. seen b) self.boxes.items) c.cells.items) }
         ensures handed_back { IfErr result (λ b. b.items ≡ self.boxes.items) }
     {
         let Graph {
             boxes,
-            ranks: _,
+            ranks,
             wires,
             reserves,
         } = self;
         let alloc = *boxes.allocator();
-        make_cells(alloc, boxes, &wires, &reserves, workers)
+        make_cells(alloc, boxes, &ranks, &wires, &reserves, workers)
     }
 }

@@ -1,11 +1,11 @@
 -- What is wrong with a growth, over plain data: the graph before it, and what is left of the
 -- reserve.
-use Rattle.exec_laws.specs.Prelude.{Blank, GrowthFlaw, GrowthForm, Kind, Me, New, NewEdge, SpecForm, Who, Wire, expression, filter, has_input, has_output, is_gapless, is_me, kind_of, rank_at, same_kind, unboxed}
+use Rattle.exec_laws.specs.Prelude.{Blank, GrowthFlaw, GrowthForm, Kind, Me, New, NewEdge, Who, Wire, has_input, has_output, is_gapless, is_me, rank_at, same_kind}
 use Rattle.std.specs.List.{list_any}
 use Rattle.std.specs.Option.{option_map}
 use Rattle.std.specs.Prelude.{Bool, List, Option, Some, [], cond, count_by, false, find, if◌then◌else◌, length, map, nat_lt, not, slice_index_or, suc, true, ℕ, ◌&&◌, ◌++◌, ◌||◌, ◌∷◌}
 use Rattle.proc_api.specs.KindRows.{all_kinds}
-use Rattle.query_model.specs.declared.processor_spec.Kind.TheVariants as kinds
+pub use Rattle.proc_api.specs.Forms.{form_kind}
 use Rattle.exec_laws.specs.declared.growth.GrowthFlaw.TheVariants as flaw
 
 -- ---- ends and wires of a growth of node n, whose new nodes are at these places
@@ -26,11 +26,6 @@ abbrev pub new_wires : ℕ → List ℕ → List NewEdge → List Wire
 new_wires n places edges = map (new_wire n places) edges
 
 -- ---- the places of new nodes: each takes the first blank of its kind that no earlier one took
-
-abbrev pub form_kind : SpecForm → Kind
-form_kind (filter c) = kinds.Filter
-form_kind (expression items) = kinds.Expression
-form_kind (unboxed s) = kind_of s
 
 abbrev pub is_blank_of : Kind → Blank → Bool
 is_blank_of k b = same_kind b.kind k

@@ -14,7 +14,7 @@ pub use Rattle.port_word.specs.declared.flags.Flags.{Flags}
 pub use Rattle.port_word.specs.declared.flags.Port.{Port}
 pub use Rattle.port_word.specs.declared.flags.Port.TheVariants.{Input, Output}
 pub use Rattle.port_word.specs.declared.flags.Reserve.{Reserve}
-pub use Rattle.proc_api.specs.Names.{AllInputsFinished, AreAsKept, ArePortsOf, BoxPicture, ChangedByCalls, CountsOn, FaultHolds, FaultIsDue, FollowsKept, GrowthForm, HasInputWire, HasOutputWire, InputFollows, IsBlank, IsFresh, IsGraph, IsRunning, Keeps, KeepsSame, Lists, Loads, MayGrow, MaySchedule, MayWork, NotesView, OutputFollows, PreparesLawfully, ProducerKnows, PulledOn, Rests, SameBox, SameChunks, SpecForm, StandStill, StatusComes, StatusHolds, StaysFit, expression, filter, has_input, has_output, input_count, is_ended, is_gapless, no_box, no_lists, output_count, pushed_at, same_kind, spec_form, taken_out, unboxed, with_pulled, with_pushed}
+pub use Rattle.proc_api.specs.Names.{AllInputsFinished, AreAsKept, ArePortsOf, BoxPicture, ChangedByCalls, CountsOn, FaultHolds, FaultIsDue, FollowsKept, GrowthForm, HasInputWire, HasOutputWire, InputFollows, IsBlank, IsFresh, IsGraph, IsRunning, Keeps, KeepsSame, Lists, Loads, MayGrow, MaySchedule, MayWork, NotesView, OutputFollows, PreparesLawfully, ProducerKnows, PulledOn, Rests, SameBox, SameChunks, SpecForm, StandStill, StatusComes, StatusHolds, StaysFit, expression, has_input, has_output, input_count, is_ended, is_gapless, no_box, no_lists, output_count, pushed_at, same_kind, spec_form, taken_out, with_pulled, with_pushed}
 pub use Rattle.proc_api.specs.KindContract.{is_me}
 pub use Rattle.proc_api.specs.Prelude.{InputPort, Kind, Spec, Table, Wire, kind_of}
 pub use Rattle.proc_api.specs.Reserves.{holds_node, no_reserve}

@@ -1,11 +1,8 @@
 -- The kinds of a growth's new nodes, and blanks of a kind.
 use Rattle.graph_checks.proofs.Imports.{Blank, GrowNode, Kind, List, Spec, [], ap, arith, blank_place, cond, count_by, drop, drop-cons, false, find, form_kind, get_or, grown_kinds, is_blank_of, kind_of, length, map, refl, remove, same_kind, spec_form, suc, sum_by-cons, sym, take, true, without_blank, Bool, ℕ, ◌++◌, ◌+◌, ◌<◌, ◌∙◌, ◌∷◌, ◌≡◌}
-use Rattle.query_model.specs.declared.processor_spec.Spec.TheVariants as spec
 
 form-kind : (s : Spec) → form_kind (spec_form s) ≡ kind_of s
-form-kind (spec.Filter c) = refl
-form-kind (spec.Expression items) = refl
-form-kind s = refl
+form-kind s = grind arith
 
 -- the kinds by the forms of the specs are those by the specs
 pub kinds-are : (nodes : List GrowNode)

@@ -40,6 +40,7 @@ module _ {P : Type 0} (seen : P → BoxPicture) (t : Identity) (old : NodeCell P
     mark = record { state = node.Due; last = None };
     ports = old.ports;
     seat = b;
+    reserve = old.reserve;
   })
   newborn = record {
     loads = loads;

@@ -1,15 +1,23 @@
--- What is left of the reserve of a node.
-use Rattle.std.specs.Prelude.{length, ◌≤◌}
+-- What is left of the reserve of a node, and what is named of the node before a run.
+use Rattle.std.specs.Prelude.{ℕ}
 use Rattle.exec_laws.specs.Growths.{Left}
-use Rattle.node_births.specs.declared.reserve.NodeReserve.{NodeReserve}
-use Rattle.node_ports.specs.declared.ports.NodePorts.{NodePorts}
+use Rattle.exec_laws.specs.Prelude.{BoxPicture}
+use Rattle.node_cells.specs.Stops.{left_in}
+use Rattle.node_cells.specs.declared.cell.NodeReserve.{NodeReserve}
 
-abbrev pub left_in : NodeReserve → Left
-left_in r = record { blanks = r.blanks.items; edges = r.edges }
+-- what a node may grow by, as data: its rank in a graph of so many nodes, its unborn blanks, and
+-- its edges from the next one on
+pub record ReserveForm : Type 0 where
+  pub rank : ℕ
+  pub nodes : ℕ
+  pub left : Left
+  pub next_edge : ℕ
 
--- a node with so few ports, of a graph of so few nodes
-pub record HasReserve (r : NodeReserve) (p : NodePorts) : Type 0 where
-  pub nodes : r.nodes ≤ 256
-  pub blanks : length r.blanks.items ≤ 256
-  pub inputs : length p.sources.items ≤ 32
-  pub outputs : length p.targets.items ≤ 32
+abbrev pub reserve_form : NodeReserve → ReserveForm
+reserve_form r =
+    record { rank = r.rank; nodes = r.nodes; left = left_in r; next_edge = r.next_edge }
+
+-- what is named of a node: what its box was before the run, and what it might grow by
+pub record NamedNode : Type 0 where
+  pub box : BoxPicture
+  pub reserve : ReserveForm

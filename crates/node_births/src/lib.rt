@@ -8,18 +8,23 @@
 //!
 //! - `more_ports.rt`: a node gets edges at its next ports
 //! - `birth.rt`: an unborn node is loaded, and is due
-//! - `reserve.rt`: what a node may still grow by, and the first flaw of its growth
+//! - `reserve.rt`: the first flaw of a node's growth, by what it may still grow by
 //! - `widening.rt`: a node's processor says by what the graph grows, and a node gets its ports
+//! - `left_nodes.rt`: all nodes after a run, and the graph that they make
 //! - `specs/MorePorts.antt`: the ports with one more, and with more of a side
 //! - `specs/Newborn.antt`: a node that was just born; `specs/Widened.antt`: a node that grows;
-//!   `specs/Left.antt`: its reserve
+//!   `specs/Left.antt`: its reserve, as data
+//! - `specs/TableEdges.antt`, `specs/OwnBirths.antt`: what a node knows of the births of a reserve;
+//!   `specs/LeftNodes.antt`: what all nodes know after a run, and the law of it
 #![tactic(auto)]
 
 mod birth;
+mod left_nodes;
 mod more_ports;
 mod reserve;
 mod widening;
 
 pub use birth::bear;
-pub use reserve::{NodeReserve, check_own_growth};
+pub use left_nodes::law_of_left_nodes;
+pub use reserve::check_own_growth;
 pub use widening::{ask_growth, get_ports, law_of_widened_cells};

@@ -2,28 +2,18 @@
 ghost use Rattle.std.specs.Prelude.{◌≡◌, ◌≤◌, ◌++◌, Some, None, IfErr, IfOk, length};
 ghost use Rattle.proc_api.specs.Forms.{growth_form};
 ghost use Rattle.exec_laws.specs.Growths.{new_wires, places_for};
-ghost use Rattle.graph_checks.specs.Flaws.{flaw_over, grown_kinds};
-ghost use Rattle.graph_checks.specs.OwnWires.{own_wires};
-ghost use Rattle.node_births.specs.Left.{HasReserve, left_in};
+ghost use Rattle.graph_checks.specs.Flaws.{grown_kinds};
+ghost use Rattle.node_cells.specs.Cells.{cell_ports};
+ghost use Rattle.node_cells.specs.Stops.{own_flaw, wires_known};
+ghost use Rattle.node_ports.specs.Ports.{PortsHold};
 
 use chunk_data::{List, Memory};
 use exec_laws::{Blank, GrowthFlaw};
 use graph_checks::{GrownGraph, check_growth_at, own_wires};
-use node_ports::NodePorts;
+use node_cells::NodeCell;
 use port_word::Wire;
-use proc_api::Growth;
+use proc_api::{Growth, Processor};
 use std::alloc::Global;
-
-/// What is left of the reserve of a node, which has this rank in a graph of so many nodes: its
-/// blanks in order, and so many edges from the next one on.
-#[derive(Drop)]
-pub struct NodeReserve {
-    pub rank: u32,
-    pub nodes: u32,
-    pub blanks: Vec<Blank>,
-    pub next_edge: u32,
-    pub edges: u32,
-}
 
 fn copy_blanks(alloc: Global, blanks: &[Blank]) -> Result<Vec<Blank>, Memory>
     ensures { IfOk result (λ copy. copy.items ≡ blanks.now) }
@@ -33,49 +23,58 @@ fn copy_blanks(alloc: Global, blanks: &[Blank]) -> Result<Vec<Blank>, Memory>
     Ok(copy)
 }
 
-/// The wires at node n, by the nodes at its ports.
-fn known_wires(alloc: Global, ports: &NodePorts, n: u32) -> Result<List<Wire>, Memory>
-    requires few_inputs { length ports.now.sources.items ≤ 32 }
-    requires few_outputs { length ports.now.targets.items ≤ 32 }
-    ensures { IfOk result
-        (λ own. own ≡ own_wires n ports.now.sources.items ports.now.targets.items) }
+/// A law, as a function: a node has few ports.
+fn law_of_few_ports<P: Processor>(cell: &NodeCell<P>)
+    requires { PortsHold (cell_ports cell.now) }
+    ensures inputs { length cell.now.ports.sources.items ≤ 32 }
+    ensures outputs { length cell.now.ports.targets.items ≤ 32 }
 {
-    own_wires(alloc, n, ports.sources.as_slice(), ports.targets.as_slice())
+    cell.ports.view.inputs();
+    cell.ports.view.outputs();
 }
 
-/// The first flaw of the growth that the processor of node n gave, by what the node itself knows:
-/// its reserve and the nodes at its ports. Without one, where the new nodes lie and the wires at
-/// the node and of the growth, in this order.
-pub fn check_own_growth(
+/// The wires at the node, by the nodes at its ports.
+fn known_wires<P: Processor>(alloc: Global, cell: &NodeCell<P>) -> Result<List<Wire>, Memory>
+    requires { PortsHold (cell_ports cell.now) }
+    ensures { IfOk result (λ own. own ≡ wires_known cell.now) }
+{
+    law_of_few_ports(cell);
+    own_wires(
+        alloc,
+        cell.seat.node,
+        cell.ports.sources.as_slice(),
+        cell.ports.targets.as_slice(),
+    )
+}
+
+/// The first flaw of the growth that the node's processor gave, by what the node itself knows: its
+/// reserve and the nodes at its ports. Without one, where the new nodes lie and the wires at the
+/// node and of the growth, in this order.
+pub fn check_own_growth<P: Processor>(
     alloc: Global,
-    reserve: &NodeReserve,
-    ports: &NodePorts,
-    n: u32,
+    cell: &NodeCell<P>,
     growth: &Growth,
 ) -> Result<Result<GrownGraph, GrowthFlaw>, Memory>
-    requires { HasReserve reserve.now ports.now }
-    ensures flaw { IfOk result (λ r. IfErr r (λ f. flaw_over reserve.now.rank reserve.now.nodes
-        (own_wires n ports.now.sources.items ports.now.targets.items) (left_in reserve.now) n
-        (growth_form growth.now) ≡ Some f)) }
-    ensures none { IfOk result (λ r. IfOk r (λ g. flaw_over reserve.now.rank reserve.now.nodes
-        (own_wires n ports.now.sources.items ports.now.targets.items) (left_in reserve.now) n
-        (growth_form growth.now) ≡ None)) }
-    ensures places { IfOk result (λ r. IfOk r (λ g. g.places.items
-        ≡ places_for (grown_kinds growth.now.nodes) reserve.now.blanks.items reserve.now.nodes)) }
-    ensures wires { IfOk result (λ r. IfOk r (λ g. g.wires
-        ≡ own_wires n ports.now.sources.items ports.now.targets.items
-        ++ new_wires n g.places.items growth.now.edges)) }
+    requires { PortsHold (cell_ports cell.now) }
+    ensures flaw { IfOk result
+        (λ r. IfErr r (λ f. own_flaw cell.now (growth_form growth.now) ≡ Some f)) }
+    ensures none { IfOk result
+        (λ r. IfOk r (λ g. own_flaw cell.now (growth_form growth.now) ≡ None)) }
+    ensures places { IfOk result (λ r. IfOk r (λ g. g.places.items ≡ places_for
+        (grown_kinds growth.now.nodes) cell.now.reserve.blanks.items cell.now.reserve.nodes)) }
+    ensures wires { IfOk result (λ r. IfOk r (λ g. g.wires ≡ wires_known cell.now
+        ++ new_wires cell.now.seat.node g.places.items growth.now.edges)) }
 {
-    let wires = known_wires(alloc, ports, n)?;
-    let blanks = copy_blanks(alloc, reserve.blanks.as_slice())?;
+    let wires = known_wires(alloc, cell)?;
+    let blanks = copy_blanks(alloc, cell.reserve.blanks.as_slice())?;
     check_growth_at(
         alloc,
-        reserve.rank,
-        reserve.nodes as usize,
+        cell.reserve.rank,
+        cell.reserve.nodes as usize,
         &wires,
         blanks,
-        reserve.edges as usize,
-        n,
+        cell.reserve.edges as usize,
+        cell.seat.node,
         growth,
     )
 }

@@ -1,6 +1,6 @@
 //! A node gets the ports of a growth: an unborn one, and the one that grows, whose processor says
 //! by what.
-ghost use Rattle.std.specs.Prelude.{◌≡◌, IfErr, IfOk, OnOk};
+ghost use Rattle.std.specs.Prelude.{◌≡◌, true, IfErr, IfOk, OnOk};
 ghost use Rattle.proc_api.specs.Forms.{growth_form};
 ghost use Rattle.exec_laws.specs.Names.{StaysBox};
 ghost use Rattle.exec_laws.specs.declared.edges.DueCall.TheVariants.{Expand};
@@ -25,8 +25,12 @@ pub fn ask_growth<P: Processor>(
 ) -> Result<Growth, WorkFault>
     requires { IsAtWork P.seen (identity_of _table.now) Expand cell.old }
     ensures stays { StaysBox (P.seen cell.old.processor) (P.seen cell.new.processor) }
+    ensures same { cell.new ≡ record cell.old { processor = cell.new.processor } }
     ensures grows { IfOk result (λ g. IsGrowing P.seen (identity_of _table.now) (growth_form g)
         cell.old cell.new) }
+    ensures acted { IfOk result (λ g. (P.seen cell.new.processor).notes.acted ≡ true) }
+    ensures growth { IfErr result (λ f.
+        (P.seen cell.new.processor).growth ≡ (P.seen cell.old.processor).growth) }
     ensures fault { IfErr result
         (λ f. IsStopped P.seen (identity_of _table.now) (Fault f) cell.new) }
 {

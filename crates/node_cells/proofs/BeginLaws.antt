@@ -1,5 +1,5 @@
 -- A node with a token begins: where its word was 0 the token is spent.
-use Rattle.node_cells.proofs.Imports.{Identity, is_over_stage, is_unborn_stage, stage_at, StepAnswer, Bool, BoxPicture, IsSeatOf, MakesStep, MakesUpdated, NodeCell, CellNodeHolds, NodeMark, NodePorts, NodeSeat, NodeView, None, SeatState, ap, arith, cases_Bool, cases_lt, cond, eq-eqb, eqb-true, false, inl, inr, is_set, ne_eqb, node_at, nothing, ports_picture, refl, spent, state-made, state_taken, subst, sym, true, updated, view, ℕ, ◌+◌, ◌-◌, ◌/◌, ◌%◌, ◌^◌, ◌∙◌, ◌≡◌, ◌≢◌, ◌≤◌}
+use Rattle.node_cells.proofs.Imports.{Identity, is_over_stage, is_unborn_stage, stage_at, StepAnswer, Bool, BoxPicture, IsSeatOf, MakesStep, MakesUpdated, NodeCell, CellNodeHolds, NodeMark, NodePorts, NodeSeat, NodeView, None, SeatState, ap, arith, cases_Bool, cases_lt, cond, eq-eqb, eqb-true, false, inl, inr, is_set, ne_eqb, node_at, nothing, ports_picture, refl, spent, state-made, state_taken, subst, sym, true, updated, view, ℕ, ◌+◌, ◌-◌, ◌/◌, ◌%◌, ◌^◌, ◌∙◌, ◌≡◌, ◌≢◌, ◌≤◌, end_of_view}
 use Rattle.exec_table.proofs.Ends.{number-made, stage-made}
 use Rattle.node_cells.proofs.RestLaws.{due-node, quiet-node, taken-node}
 use Rattle.node_cells.proofs.UpdatedLaws.{high-bits, low-bits}
@@ -14,6 +14,7 @@ use Rattle.core_laws.specs.declared.types.Step.TheVariants as step
 use Rattle.exec_laws.specs.declared.edges.NodeStatus.TheVariants as node
 use Rattle.std.specs.Int.{bit_at}
 use Rattle.std.proofs.lemmas.Nat.Bits.{bit_at-lt, bit_at-zero, same_from_bits}
+use Rattle.node_cells.proofs.StayLaws.{wires-still}
 
 -- ---- a word without bits
 
@@ -132,6 +133,7 @@ record IsBack (old new : NodeSeat) : Type 0 where
   state : (view new).state ≡ record (view old).state { tokens = 0 }
   stage : (view new).stage ≡ (view old).stage
   number : (view new).number ≡ (view old).number
+  wires : (e : ℕ) → (end_of_view (view new) e).wire ≡ (end_of_view (view old) e).wire
 
 module _ {t : Identity} {old new : NodeSeat} (due : Bool) (o : IsSeatOf t old)
     (w : TakesBack t due old new) (one : (view old).state.tokens ≡ cond due 1 0) where
@@ -142,12 +144,14 @@ module _ {t : Identity} {old new : NodeSeat} (due : Bool) (o : IsSeatOf t old)
           (one ∙ ap (λ b. cond b 1 0) q);
       stage = stage-made o (w.took q);
       number = number-made o (w.took q);
+      wires = wires-still o (w.took q) (λ _. refl);
     }
     | inr q ↦ record {
       state = ap (λ s. (view s).state) (w.left q) ∙ ap (λ k. record (view old).state { tokens = k })
           (one ∙ ap (λ b. cond b 1 0) q);
       stage = ap (λ s. (view s).stage) (w.left q);
       number = ap (λ s. (view s).number) (w.left q);
+      wires = λ e. ap (λ s. (end_of_view (view s) e).wire) (w.left q);
     }
   ]
 
@@ -185,6 +189,10 @@ module _ {P : Type 0} (seen : P → BoxPicture) (t : Identity) (old : NodeCell P
 
     pub begun-number : (view c).number ≡ (view old.seat).number
     begun-number = backed.number ∙ (number-made i.seat m.makes ∙ number-made h.cell.seat i)
+
+    pub begun-wires : (e : ℕ) → (end_of_view (view c) e).wire ≡ (end_of_view (view old.seat) e).wire
+    begun-wires e = backed.wires e ∙ (wires-still i.seat m.makes (λ _. refl) e
+        ∙ wires-still h.cell.seat i (λ _. refl) e)
 
     begun-node : (v : Updated) → IsMerged old.ports.updated u v → CellNodeHolds (seen old.processor)
         old.mark (ports_picture (record old.ports { updated = v }) c)

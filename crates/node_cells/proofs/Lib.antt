@@ -12,4 +12,6 @@ pub mod QueueLaws
 pub mod VisitLaws
 mod SizeLaws
 mod NewPorts
+mod NewReserves
+pub mod OwnWires
 pub mod NewCells

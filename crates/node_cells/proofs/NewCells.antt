@@ -1,5 +1,5 @@
 -- The cells of a new table: one of a fresh processor may begin, and one of a blank one is kept.
-use Rattle.node_cells.proofs.Imports.{BoxHolds, BoxPicture, Identity, Input, IsPort, List, Lists, MarkHolds, NodeCell, CellNodeHolds, NodeView, None, Output, Picture, Port, PortsHold, SeatState, Wire, [], ap, arith, cases_Bool, cell_ports, cond, eq-eqb, false, identity_of, inl, inr, input_count, is_over_stage, is_unborn_stage, length, length-map, output_count, pulled_by, pushed_by, refl, rules, subst, sym, true, view, wire_at, ℕ, ◌++◌, ◌<◌, ◌∙◌, ◌≡◌, ◌⊎◌}
+use Rattle.node_cells.proofs.Imports.{BoxHolds, BoxPicture, Identity, Input, IsPort, List, Lists, MarkHolds, NodeCell, CellNodeHolds, NodeView, None, Output, Picture, Port, PortsHold, SeatState, Wire, [], ap, arith, cases_Bool, cell_ports, cond, eq-eqb, false, identity_of, inl, inr, input_count, is_over_stage, is_unborn_stage, length, length-map, output_count, pulled_by, pushed_by, refl, rules, subst, sym, true, view, wire_at, ℕ, ◌++◌, ◌<◌, ◌∙◌, ◌≡◌, ◌⊎◌, PortsPicture, Some, edge_of, end_of_view, is_own_port}
 use Rattle.core_laws.specs.Start.{start_node}
 use Rattle.core_laws.specs.declared.types.Sizes.{Sizes}
 use Rattle.exec_laws.specs.Names.{AreEdgesOf}
@@ -11,10 +11,11 @@ use Rattle.exec_table.specs.Rule.{start_stage}
 use Rattle.exec_table.specs.Seats.{IsRootOf, sizes_in}
 use Rattle.exec_table.specs.declared.make.Made.{Made}
 use Rattle.exec_table.specs.declared.rule.ExecTable.{ExecTable}
+use Rattle.exec_table.specs.declared.rule.NodeSeat.{NodeSeat}
 use Rattle.exec_table.specs.declared.rule.RootSeat.{RootSeat}
 use Rattle.exec_table.specs.declared.types.Stage.TheVariants.{Begun, Born, Unborn}
-use Rattle.node_cells.proofs.NewPorts.{new-edges, new-ports, new_ports_picture, nothing-pulled, nothing-pushed, state-start}
-use Rattle.node_cells.specs.NewCells.{AreNewCells, AreNewNodes, AreNewPorts, Fills, HasEdgeAt, HasPortsWithinLimits, IsGraphOfNodes, IsNewCell, IsNewNodeAt, ends_at, first_mark, node_of_cell, sizes_of}
+use Rattle.node_cells.proofs.NewPorts.{new-edges, new-ports, new_ports_picture, nothing-pulled, nothing-pushed, state-start, new-wires}
+use Rattle.node_cells.specs.NewCells.{AreNewCells, AreNewNodes, AreNewPorts, AreNewReserves, Fills, HasEdgeAt, HasPortsWithinLimits, IsGraphOfNodes, IsNewCell, IsNewNodeAt, ends_at, first_mark, node_of_cell, sizes_of}
 use Rattle.node_cells.specs.Stored.{AwaitsBirth, StoredAs}
 use Rattle.node_cells.specs.Turns.{MayBegin}
 use Rattle.node_cells.specs.declared.new_cells.Cells.{Cells}
@@ -139,7 +140,15 @@ module _ {P : Type 0} (seen : P → BoxPicture) (t : Identity)
     ];
     number = ap (λ (v : NodeView). v.number) seat.1;
     mark = mark;
-    edges = new-numbers;
+    places = record {
+      numbers = new-numbers;
+      ins = refl;
+      outs = refl;
+      edge_is = λ p own. refl;
+      wire_is = subst (λ (c : PortsPicture). (p : Port) → is_own_port c p
+          → (end_of_view c.node (edge_of c p)).wire ≡ Some (wire_at t.sizes.wires (edge_of c p)))
+          (sym first-ports) (new-wires t.sizes n inside g _ _ _ _ new.inputs new.outputs);
+    };
   }
 
 -- ---- the cells of a table
@@ -160,14 +169,25 @@ elem-or [] k x d h = absurd (some-ne-none x (sym h))
 elem-or (y ∷ ys) zero x d h = some-injective y x h
 elem-or (y ∷ ys) (suc k) x d h = elem-or ys k x d h
 
-pub cells-made : {P : Type 0} (seen : P → BoxPicture) (boxes : List P) (wires : List Wire)
-    (reserves : List Reserve) (workers : ℕ) (nodes : List NewNode) (m : Made) (c : Cells P)
-    → IsGraphOfNodes (length boxes) wires reserves → AreStarting reserves (map seen boxes)
-    → AreNewNodes wires reserves nodes
+-- the cells of new nodes have their reserves
+pub cells-reserve : {P : Type 0} (ranks : List ℕ) (wires : List Wire) (reserves : List Reserve)
+    (pictures : List BoxPicture) (boxes : List P) (nodes : List NewNode) (seats : List NodeSeat)
+    (cells : List (NodeCell P)) → AreNewNodes ranks wires reserves pictures nodes
+    → Fills cells boxes nodes seats → AreNewReserves ranks reserves pictures cells
+cells-reserve ranks wires reserves pictures boxes nodes seats cells new fills k x is =
+    (new k (node_of_cell x) (subst (λ l. get_elem? l k ≡ some (node_of_cell x)) fills.nodes_are
+    (elem-map node_of_cell cells k x is))).reserve
+
+pub cells-made : {P : Type 0} (seen : P → BoxPicture) (boxes : List P) (ranks : List ℕ)
+    (wires : List Wire) (reserves : List Reserve) (workers : ℕ) (nodes : List NewNode) (m : Made)
+    (c : Cells P) → IsGraphOfNodes (length boxes) wires reserves
+    → AreStarting reserves (map seen boxes)
+    → AreNewNodes ranks wires reserves (map seen boxes) nodes
     → IsNewTable (sizes_of (length boxes) wires reserves workers) m → c.table ≡ m.table
     → c.root ≡ m.root → Fills c.cells.items boxes nodes m.nodes.items
     → AreNewCells seen (sizes_of (length boxes) wires reserves workers) boxes c
-cells-made {P} seen boxes wires reserves workers nodes m c g starting new made table root fills =
+cells-made {P} seen boxes ranks wires reserves workers nodes m c g starting new made table root
+    fills =
     record {
       key = ap sizes_in table ∙ made.key;
       root = subst (λ (z : ExecTable × RootSeat). IsRootOf (identity_of z.0) z.1)
@@ -187,7 +207,7 @@ cells-made {P} seen boxes wires reserves workers nodes m c g starting new made t
     sizes = ap sizes_in table ∙ made.key
 
     node-at : (k : ℕ) (x : NodeCell P) → get_elem? c.cells.items k ≡ some x
-        → IsNewNodeAt wires reserves k (node_of_cell x)
+        → IsNewNodeAt ranks wires reserves (map seen boxes) k (node_of_cell x)
     node-at k x is = new k (node_of_cell x) (subst (λ l. get_elem? l k ≡ some (node_of_cell x))
         fills.nodes_are (elem-map node_of_cell c.cells.items k x is))
 
@@ -241,12 +261,13 @@ last-or (y ∷ ys) a b (suc k) h = elim (last-or ys a b k h) [
 ]
 
 -- one more node
-pub more-nodes : (wires : List Wire) (rs : List Reserve) (all : List NewNode) (x : NewNode)
-    → AreNewNodes wires rs all → IsNewNodeAt wires rs (length all) x
-    → AreNewNodes wires rs (all ++ x ∷ [])
-more-nodes wires rs all x h here k y is = elim (last-or all x y k is) [
+pub more-nodes : (ranks : List ℕ) (wires : List Wire) (rs : List Reserve)
+    (boxes : List BoxPicture) (all : List NewNode) (x : NewNode)
+    → AreNewNodes ranks wires rs boxes all → IsNewNodeAt ranks wires rs boxes (length all) x
+    → AreNewNodes ranks wires rs boxes (all ++ x ∷ [])
+more-nodes ranks wires rs boxes all x h here k y is = elim (last-or all x y k is) [
   | inl was ↦ h k y was
-  | inr at ↦ subst (λ (z : ℕ × NewNode). IsNewNodeAt wires rs z.0 z.1)
+  | inr at ↦ subst (λ (z : ℕ × NewNode). IsNewNodeAt ranks wires rs boxes z.0 z.1)
       (λ j. (sym at.0 j, at.1 j)) here
 ]
 

@@ -218,6 +218,14 @@ module _ (s : Sizes) (n : ℕ) (inside : n < s.nodes) (g : IsGraphOfNodes s.node
         other = other-there p own;
       }
 
+  -- each edge has its wire of the graph
+  pub new-wires : (p : Port) → is_own_port c p
+      → (end_of_view c.node (edge_of c p)).wire ≡ Some (wire_at s.wires (edge_of c p))
+  unfolding wire_at
+  new-wires p own = let h = edge-there p own in
+      wire-start s n inside (edge_of c p) h.in_range
+      (named-end (wire_at s.wires (edge_of c p)) p h.at_port)
+
   covers : (e : ℕ) → knows e c.node.state.seen ≡ true → HasPortOf c e
   unfolding wire_at
   covers e k =

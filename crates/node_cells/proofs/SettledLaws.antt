@@ -1,5 +1,9 @@
 -- From all cells and a survey in which nothing is pending: a running graph in which nothing is due.
-use Rattle.node_cells.proofs.Imports.{InputHolds, MarkHolds, OutputAllows, OutputHolds, append_assoc, is_over_stage, is_unborn_stage, ne_eqb, Board, Bool, BoxHolds, ConsumerSees, EdgeState, EdgeEnd, EdgeEndHolds, Flags, HasEdge, Input, InputFollows, InputPort, IsBorn, IsPort, Lane, List, NodeView, None, Option, Output, OutputFollows, Port, PortsPicture, ProducerKnows, ProducerSees, Running, Sees, Some, Table, Wire, and_parts, ap, append-nil, arith, cases_Bool, chunks_in, chunks_of, edge_of, edge-count, end_for, end_of, end_of_view, eqb-true, false, flags_at, has, inl, input_after, input_at, input_count, input_seen, inr, is_end, is_own_port, is_some, is_waiting, ◌⊎◌, knows, lane_at, length, lifted_of, node_at, output_after, output_at, output_count, output_seen, port_at, pulled_by, pushed_by, pushes_to, refl, rules, slot_in, stage_at, subst, sym, true, view-end, wire_at, ℕ, ◌++◌, ◌<◌, ◌||◌, ◌∙◌, ◌≡◌}
+use Rattle.node_cells.proofs.Imports.{Board, Bool, BoxHolds, ConsumerSees, EdgeEnd, EdgeEndHolds, EdgeState, Flags, HasEdge, Input, InputFollows, InputHolds, InputPort, IsBorn, IsPort, Lane, List, MarkHolds, NodeView, None, Option, Output, OutputAllows, OutputFollows, OutputHolds, Port, PortsPicture, ProducerKnows, ProducerSees, Running, Sees, Some, Table, Wire, and_parts, ap, append-nil, append_assoc, arith, cases_Bool, cases_lt, chunks_in, chunks_of, edge_of, end_for, end_of, end_of_view, eqb-true, false, flags_at, has, inl, input_after, input_at, input_count, input_seen, inr, is_end, is_over_stage, is_own_port, is_some, is_unborn_stage, is_waiting, knows, lane_at, length, lifted_of, ne_eqb, node_at, output_after, output_at, output_count, output_seen, port_at, pulled_by, pushed_by, pushes_to, refl, rules, slot_in, stage_at, subst, sym, true, view-end, wire_at, ℕ, ◌++◌, ◌<◌, ◌||◌, ◌∙◌, ◌≡◌, ◌⊎◌}
+use Rattle.core_laws.specs.Views.{no_port, port_of}
+use Rattle.exec_laws.specs.Names.{port_edge}
+use Rattle.core_laws.specs.declared.types.PortState.{PortState}
+use Rattle.std.proofs.Math.ListN.{get_or-eq_default}
 use Rattle.node_ports.proofs.Shown.{end-side, end-there, is_input, passed, quiet-passed, quiet-seen, seen_at, sight}
 use Rattle.std.specs.Prelude.{IsSome}
 use Rattle.node_cells.specs.Ends.{SettledLaw, AreSettled, CellAtHome, WholeCell, edge_of_board, lifted_at, picture_of, unlifted}
@@ -61,16 +65,30 @@ one-content : (x y : Option Table) → is_some x ≡ true → unlifted x y ≡ N
 one-content None y h = absurd (let z : false ≡ true = h in cc)
 one-content (Some c) y h = refl
 
+-- an end that is known and has a wire has that of the port
+end-wire : (n : ℕ) (w : Option Wire) (l : Lane) (x : Wire) → (end_for n true w l).wire ≡ Some x
+    → w ≡ Some x
+end-wire n w l x h = grind (arith, h)
+
+-- a port that has a wire is one of the table's
+wired-inside : (ports : List PortState) (e : ℕ) (x : Wire) → (port_of ports e).wire ≡ Some x
+    → e < length ports
+wired-inside ports e x h = elim (cases_lt e (length ports)) [
+  | inl lt ↦ lt
+  | inr le ↦ absurd (let none = get_or-eq_default ports no_port {n = e} le in
+      let q : None ≡ Some x = ap (λ (p : PortState). p.wire) (sym none) ∙ h in cc)
+]
+
 zero-word : (w : ℕ) → counts w ≡ 0 → is_unborn w ≡ false → is_over w ≡ false → w ≡ 0
 zero-word w c u o = eqb-true w 0 (grind (arith, c, u, o))
 
-module _ (count : ℕ) (wires : List Wire) (b : Board) (cells : ℕ → WholeCell)
-    (s : AreSettled count wires b cells) where
+module _ (count : ℕ) (wires : List Wire) (table_edge : ℕ → ℕ) (b : Board)
+    (cells : ℕ → WholeCell) (s : AreSettled count wires table_edge b cells) where
   abbrev at : ℕ → PortsPicture
   at n = (cells n).ports
 
   abbrev edge : ℕ → EdgeState
-  edge e = edge_of_board wires b cells e
+  edge e = edge_of_board wires table_edge b cells e
 
   -- ---- a node
 
@@ -103,16 +121,21 @@ module _ (count : ℕ) (wires : List Wire) (b : Board) (cells : ℕ → WholeCel
     there : n < count
     there = search (rules, s.graph)
 
-    cell : CellAtHome wires n (cells n)
+    cell : CellAtHome wires table_edge n (cells n)
     cell = s.home n there (s.born e n p h)
 
     own : is_own_port (at n) p
-    own = subst (λ (l : ℕ × ℕ). IsPort l.0 l.1 p)
-        (λ j. (sym cell.numbers.ins j, sym cell.numbers.outs j)) own-count
+    own = subst (λ (l : ℕ × ℕ). IsPort l.0 l.1 p) (λ j. (
+      sym (cell.places.ins ∙ cell.places.numbers.ins) j,
+      sym (cell.places.outs ∙ cell.places.numbers.outs) j,
+    )) own-count
 
-    -- it is that of the port
-    edge-is : edge_of (at n) p ≡ e
-    edge-is = one-edge p (cell.numbers.at p own-count) h
+    -- the edge's number in the table
+    abbrev d : ℕ
+    d = table_edge e
+
+    place-is : port_edge (cells n).inputs (cells n).outputs p ≡ e
+    place-is = one-edge p (cell.places.numbers.at p own-count) h
       where
         one-edge : (p : Port) {f : ℕ} → HasEdge wires n p f → HasEdge wires n p e → f ≡ e
         one-edge (Input i) a b = s.graph.graph.so_far.inputs_once _ e a.in_range b.in_range
@@ -120,28 +143,31 @@ module _ (count : ℕ) (wires : List Wire) (b : Board) (cells : ℕ → WholeCel
         one-edge (Output o) a b = s.graph.graph.so_far.outputs_once _ e a.in_range b.in_range
             (a.at_port.0 ∙ sym b.at_port.0) (a.at_port.1 ∙ sym b.at_port.1)
 
-    known : knows e (node_at b.core n).seen ≡ true
-    known = sym (ap (λ (v : NodeView). knows e v.state.seen) (s.seen n there))
+    -- it is that of the port
+    edge-is : edge_of (at n) p ≡ d
+    edge-is = cell.places.edge_is p own ∙ ap table_edge place-is
+
+    known : knows d (node_at b.core n).seen ≡ true
+    known = sym (ap (λ (v : NodeView). knows d v.state.seen) (s.seen n there))
         ∙ (ap (λ e. knows e (at n).node.state.seen) (sym edge-is)
         ∙ (cell.holds.ports.known p own).known)
 
-    inside : e < length b.core.ports
-    inside = let c = edge-count b s.board in let l = h.in_range in
-        let w = ap length s.wires_are in omega (arith, c, l, w)
-
-    wired : (port_at b.core e).wire ≡ Some (wire_at wires e)
-    unfolding wire_at
-    wired = (s.board.laws.edges.each e inside).wired.fixed
-        (let l = h.in_range in let w = ap length s.wires_are in omega (arith, l, w))
-        ∙ ap (λ l. Some (wire_at l e)) s.wires_are
-
-    end : end_of_view (at n).node e ≡ end_for n true (port_at b.core e).wire (lane_at b e)
-    end = ap (λ (v : NodeView). end_of_view v e) (s.seen n there)
-        ∙ (view-end b n e s.board ∙ ap (λ k. end_for n k (port_at b.core e).wire (lane_at b e))
+    end : end_of_view (at n).node d ≡ end_for n true (port_at b.core d).wire (lane_at b d)
+    end = ap (λ (v : NodeView). end_of_view v d) (s.seen n there)
+        ∙ (view-end b n d s.board ∙ ap (λ k. end_for n k (port_at b.core d).wire (lane_at b d))
         known)
 
-    same-flags : flags_at e (at n).node.state.seen ≡ flags_at e (node_at b.core n).seen
-    same-flags = ap (λ (v : NodeView). flags_at e v.state.seen) (s.seen n there)
+    wired : (port_at b.core d).wire ≡ Some (wire_at wires e)
+    wired = end-wire n (port_at b.core d).wire (lane_at b d) (wire_at wires e)
+        (ap (λ (z : EdgeEnd). z.wire) (sym end)
+        ∙ (ap (λ e. (end_of_view (at n).node e).wire) (sym edge-is)
+        ∙ (cell.places.wire_is p own ∙ ap (λ k. Some (wire_at wires k)) place-is)))
+
+    inside : d < length b.core.ports
+    inside = wired-inside b.core.ports d (wire_at wires e) wired
+
+    same-flags : flags_at d (at n).node.state.seen ≡ flags_at d (node_at b.core n).seen
+    same-flags = ap (λ (v : NodeView). flags_at d v.state.seen) (s.seen n there)
 
     abbrev side : Bool
     side = is_input p
@@ -149,65 +175,72 @@ module _ (count : ℕ) (wires : List Wire) (b : Board) (cells : ℕ → WholeCel
     is : end_of side (wire_at wires e) ≡ n
     is = end-there (wire_at wires e) n p h.at_port
 
-    on-side : is_end side n (port_at b.core e).wire ≡ true
+    on-side : is_end side n (port_at b.core d).wire ≡ true
     on-side = ap (is_end side n) wired ∙ end-side (wire_at wires e) n p h.at_port
 
     in-view : sight (at n).view p ≡ seen_at (at n) p
     in-view = quiet-seen (at n) cell.holds.ports (s.still n) p own
 
     -- what passed is what the board has of this end
-    passed-here : passed (at n) p ≡ (end_for n true (port_at b.core e).wire (lane_at b e)).chunks
+    passed-here : passed (at n) p ≡ (end_for n true (port_at b.core d).wire (lane_at b d)).chunks
     passed-here = quiet-passed (at n) p own (s.still n) in-view
         ∙ (ap (λ e. (end_of_view (at n).node e).chunks) edge-is
         ∙ ap (λ (z : EdgeEnd). z.chunks) end)
 
-    sees : Sees side (port_at b.core e).flags (flags_at e (at n).node.state.seen)
-    sees = subst (λ f. Sees side (port_at b.core e).flags f)
-        (ap (λ k. flags_at e (node_at b.core k).seen) is ∙ sym same-flags)
-        ((s.board.laws.edges.each e inside).sees side (wire_at wires e) wired)
+    sees : Sees side (port_at b.core d).flags (flags_at d (at n).node.state.seen)
+    sees = subst (λ f. Sees side (port_at b.core d).flags f)
+        (ap (λ k. flags_at d (node_at b.core k).seen) is ∙ sym same-flags)
+        ((s.board.laws.edges.each d inside).sees side (wire_at wires e) wired)
 
     knows-port : (cells n).mark.state ≡ node.Resting
-        → Knows side (flags_at e (at n).node.state.seen) (port_at b.core e).flags
-    knows-port rest = subst (λ f. Knows side f (port_at b.core e).flags)
-        (ap (λ k. flags_at e (node_at b.core k).seen) is ∙ sym same-flags)
-        (quiet-knows b.core e side (wire_at wires e) s.pending inside wired
+        → Knows side (flags_at d (at n).node.state.seen) (port_at b.core d).flags
+    knows-port rest = subst (λ f. Knows side f (port_at b.core d).flags)
+        (ap (λ k. flags_at d (node_at b.core k).seen) is ∙ sym same-flags)
+        (quiet-knows b.core d side (wire_at wires e) s.pending inside wired
         (ap (λ k. (node_at b.core k).word) is ∙ idle n there (s.born e n p h) rest)
-        (ap (λ k. knows e (node_at b.core k).seen) is ∙ known)
-        (ap (λ k. has e (node_at b.core k).unlooked) is
-        ∙ (sym (ap (λ (v : NodeView). has e v.state.unlooked) (s.seen n there))
-        ∙ ap (has e) (cell.home.looked rest))) s.board.laws)
+        (ap (λ k. knows d (node_at b.core k).seen) is ∙ known)
+        (ap (λ k. has d (node_at b.core k).unlooked) is
+        ∙ (sym (ap (λ (v : NodeView). has d v.state.unlooked) (s.seen n there))
+        ∙ ap (has d) (cell.home.looked rest))) s.board.laws)
 
   -- ---- the consumer's end
 
   module _ (e i : ℕ) (n : ℕ) (h : HasEdge wires n (Input i) e) where
-    abbrev lifted : Option Table
-    lifted = lifted_at (at n) e
+    -- the edge's number in the table
+    abbrev in-edge : ℕ
+    in-edge = table_edge e
 
-    content : (c : Table) → lifted ≡ Some c → (lane_at b e).content ≡ Some c
-    content c q = lifted-content n (port_at b.core e).wire (lane_at b e) (slot_in e (at n).slots) c
-        (on-side e n (Input i) h) (ap (λ (z : EdgeEnd). lifted_of (slot_in e (at n).slots) z.turn)
+    abbrev lifted : Option Table
+    lifted = lifted_at (at n) in-edge
+
+    content : (c : Table) → lifted ≡ Some c → (lane_at b in-edge).content ≡ Some c
+    content c q = lifted-content n (port_at b.core in-edge).wire (lane_at b in-edge)
+        (slot_in in-edge (at n).slots) c (on-side e n (Input i) h)
+        (ap (λ (z : EdgeEnd). lifted_of (slot_in in-edge (at n).slots) z.turn)
         (sym (end e n (Input i) h)) ∙ q)
 
-    edge-chunk : (edge e).chunk ≡ unlifted lifted (lane_at b e).content
-    edge-chunk = ap (λ k. unlifted (lifted_at (at k) e) (lane_at b e).content) h.at_port.0
+    edge-chunk : (edge e).chunk ≡ unlifted lifted (lane_at b in-edge).content
+    edge-chunk = ap (λ k. unlifted (lifted_at (at k) in-edge) (lane_at b in-edge).content)
+        h.at_port.0
 
-    input-seen : input_at (at n).view i ≡ input_seen (at n).node (at n).slots e
+    input-seen : input_at (at n).view i ≡ input_seen (at n).node (at n).slots in-edge
     input-seen = in-view e n (Input i) h
         ∙ ap (input_seen (at n).node (at n).slots) (edge-is e n (Input i) h)
 
-    filled : (port_at b.core e).flags.has_data ≡ is_some (lane_at b e).content
-    filled = sym (lane-full (port_at b.core e) (lane_at b e)
-        (s.board.laws.edges.each e (inside e n (Input i) h)).content (s.board.lanes e))
+    filled : (port_at b.core in-edge).flags.has_data ≡ is_some (lane_at b in-edge).content
+    filled = sym (lane-full (port_at b.core in-edge) (lane_at b in-edge)
+        (s.board.laws.edges.each in-edge (inside e n (Input i) h)).content
+        (s.board.lanes in-edge))
 
     pub input-end : EdgeEndHolds (Input i) (picture_of (cells n)) (edge e)
     input-end = subst (λ l. InputHolds (cells n).mark.state (input_at (at n).view i)
-        (input_after i l (port_at b.core e).flags) (edge e).chunk) (sym (s.still n)) record {
-          follows = subst (λ (x : InputPort). InputFollows x.flags (port_at b.core e).flags)
-              (sym input-seen) (input-follows (port_at b.core e).flags _
+        (input_after i l (port_at b.core in-edge).flags) (edge e).chunk) (sym (s.still n)) record {
+          follows = subst (λ (x : InputPort). InputFollows x.flags (port_at b.core in-edge).flags)
+              (sym input-seen) (input-follows (port_at b.core in-edge).flags _
               (sees e n (Input i) h));
-          data_there = filled ∙ (there-content lifted (lane_at b e).content content
+          data_there = filled ∙ (there-content lifted (lane_at b in-edge).content content
               ∙ λ j. is_some (sym input-seen j).chunk || is_some (sym edge-chunk j));
-          one_chunk = λ q. edge-chunk ∙ one-content lifted (lane_at b e).content
+          one_chunk = λ q. edge-chunk ∙ one-content lifted (lane_at b in-edge).content
               (ap (λ (x : InputPort). is_some x.chunk) (sym input-seen) ∙ q);
           known = λ r. ap (λ (x : InputPort). x.flags) input-seen
               ∙ knows-port e n (Input i) h r;
@@ -215,30 +248,33 @@ module _ (count : ℕ) (wires : List Wire) (b : Board) (cells : ℕ → WholeCel
 
     -- what was pulled, with what lies in the view and in the edge
     pub pulled-there : (pulled_by (at n) i ++ chunks_of (input_at (at n).view i).chunk)
-        ++ chunks_of (edge e).chunk ≡ (lane_at b e).pushed
+        ++ chunks_of (edge e).chunk ≡ (lane_at b in-edge).pushed
     unfolding input_at
-    pulled-there = let pulled : pulled_by (at n) i ≡ (lane_at b e).pulled =
-        passed-here e n (Input i) h ∙ consumer-chunks n (port_at b.core e).wire (lane_at b e)
-        (on-side e n (Input i) h) in
+    pulled-there = let pulled : pulled_by (at n) i ≡ (lane_at b in-edge).pulled =
+        passed-here e n (Input i) h ∙ consumer-chunks n (port_at b.core in-edge).wire
+        (lane_at b in-edge) (on-side e n (Input i) h) in
         (λ j. (pulled j ++ chunks_of (input-seen j).chunk) ++ chunks_of (edge-chunk j))
-        ∙ (append_assoc (lane_at b e).pulled _ _
-        ∙ (ap (λ l. (lane_at b e).pulled ++ l)
-        (sym (split-content lifted (lane_at b e).content content))
-        ∙ sym (s.board.lanes e).chunks))
+        ∙ (append_assoc (lane_at b in-edge).pulled _ _
+        ∙ (ap (λ l. (lane_at b in-edge).pulled ++ l)
+        (sym (split-content lifted (lane_at b in-edge).content content))
+        ∙ sym (s.board.lanes in-edge).chunks))
 
   -- ---- the producer's end
 
   module _ (e o : ℕ) (n : ℕ) (h : HasEdge wires n (Output o) e) where
-    no-consumer : is_end true n (port_at b.core e).wire ≡ false
+    abbrev out-edge : ℕ
+    out-edge = table_edge e
+
+    no-consumer : is_end true n (port_at b.core out-edge).wire ≡ false
     no-consumer = ap (is_end true n) (wired e n (Output o) h) ∙ ne_eqb (wire_at wires e).to n
         (λ k. edge_ends_differ count wires s.graph e h.in_range (h.at_port.0 ∙ sym k))
 
-    out-view : output_at (at n).view o ≡ flags_at e (at n).node.state.seen
+    out-view : output_at (at n).view o ≡ flags_at out-edge (at n).node.state.seen
     out-view = ap (λ (x : InputPort). x.flags) (in-view e n (Output o) h)
         ∙ ap (output_seen (at n).node) (edge-is e n (Output o) h)
 
     pub output-end : EdgeEndHolds (Output o) (picture_of (cells n)) (edge e)
-    output-end = let f = (port_at b.core e).flags in
+    output-end = let f = (port_at b.core out-edge).flags in
         subst (λ l. OutputHolds (cells n).mark.state (output_at (at n).view o) (output_after o l f)
         × OutputAllows o l f) (sym (s.still n)) (
           record {
@@ -250,27 +286,28 @@ module _ (count : ℕ) (wires : List Wire) (b : Board) (cells : ℕ → WholeCel
           tt,
         )
 
-    pub pushed-there : pushed_by (at n) o ≡ (lane_at b e).pushed
-    pushed-there = passed-here e n (Output o) h ∙ producer-chunks n (port_at b.core e).wire
-        (lane_at b e) (on-side e n (Output o) h) no-consumer
+    pub pushed-there : pushed_by (at n) o ≡ (lane_at b out-edge).pushed
+    pushed-there = passed-here e n (Output o) h ∙ producer-chunks n (port_at b.core out-edge).wire
+        (lane_at b out-edge) (on-side e n (Output o) h) no-consumer
 
   -- ---- the graph is running, and nothing is due
 
-  cell-holds : (n : ℕ) → CellAtHome wires n (cells n) → RunHolds wires n (picture_of (cells n))
-      (pulled_by (at n)) (pushed_by (at n))
-  cell-holds n c = let h = c.holds in record {
-    box = subst (λ (l : ℕ × ℕ). BoxHolds l.0 l.1 (cells n).box (pulled_by (at n))
-        (pushed_by (at n))) (λ j. (c.numbers.ins j, c.numbers.outs j)) h.box;
-    view = record {
-      sound = h.ports.sound;
-      ins = h.ports.ins ∙ c.numbers.ins;
-      outs = h.ports.outs ∙ c.numbers.outs;
-    };
-    numbers = c.numbers;
-    kept = h.kept;
-    mark = subst (λ (l : ℕ × ℕ). MarkHolds (cells n).mark.state (cells n).mark.last l.0 l.1
-        (cells n).box (at n).view) (λ j. (c.numbers.ins j, c.numbers.outs j)) h.mark;
-  }
+  cell-holds : (n : ℕ) → CellAtHome wires table_edge n (cells n)
+      → RunHolds wires n (picture_of (cells n)) (pulled_by (at n)) (pushed_by (at n))
+  cell-holds n c = let h = c.holds in let ins = c.places.ins ∙ c.places.numbers.ins in
+      let outs = c.places.outs ∙ c.places.numbers.outs in record {
+        box = subst (λ (l : ℕ × ℕ). BoxHolds l.0 l.1 (cells n).box (pulled_by (at n))
+            (pushed_by (at n))) (λ j. (ins j, outs j)) h.box;
+        view = record {
+          sound = h.ports.sound;
+          ins = h.ports.ins ∙ ins;
+          outs = h.ports.outs ∙ outs;
+        };
+        numbers = c.places.numbers;
+        kept = h.kept;
+        mark = subst (λ (l : ℕ × ℕ). MarkHolds (cells n).mark.state (cells n).mark.last l.0 l.1
+            (cells n).box (at n).view) (λ j. (ins j, outs j)) h.mark;
+      }
 
   pub settled-running : Running count wires (λ n. picture_of (cells n)) edge
   unfolding pushes_to
@@ -300,11 +337,11 @@ module _ (count : ℕ) (wires : List Wire) (b : Board) (cells : ℕ → WholeCel
       end-holds e n (Output o) h = output-end e o n h
 
 pub settled-law : SettledLaw
-settled-law count wires b cells s = record {
-  running = settled-running count wires b cells s;
+settled-law count wires table_edge b cells s = record {
+  running = settled-running count wires table_edge b cells s;
   quiet = s.still;
   due = λ n lt. elim (cases_Option (cells n).box.spec) [
-    | inl born ↦ quiet-due count wires b cells s n lt born
+    | inl born ↦ quiet-due count wires table_edge b cells s n lt born
     | inr none ↦ ap is_waiting (s.unborn n lt none)
   ];
 }

@@ -1,15 +1,7 @@
 -- The processor works, or fetches.
-use Rattle.node_cells.proofs.Imports.{Identity, BoxHolds, BoxPicture, List, MarkHolds, NodeCell, CellNodeHolds, NodeMark, None, Option, PortsPicture, Some, [], ap, arith, ◌<◌, cell_ports, false, is_over_stage, is_unborn_stage, length, pulled_by, pushed_by, rules, subst, sym, true, ℕ, ◌∙◌, ◌≡◌, ◌≢◌}
+use Rattle.node_cells.proofs.Imports.{Identity, BoxHolds, BoxPicture, MarkHolds, NodeCell, CellNodeHolds, NodeMark, PortsPicture, ap, cell_ports, false, is_over_stage, is_unborn_stage, length, pulled_by, pushed_by, rules, subst, sym, true, ℕ, ◌∙◌, ◌≡◌, ◌≢◌}
 use Rattle.node_cells.specs.Turns.{AtHome, IsAtWork, IsDue, Wakes, WakesTo, call_after}
-use Rattle.std.proofs.Common.{◌∷◌}
-use Rattle.std.proofs.lemmas.Bool.{lt-ltb}
-use Rattle.node_cells.specs.Stops.{flaw_unreserved}
-use Rattle.exec_laws.specs.Names.{Acts, Grew, MayCall}
-use Rattle.exec_laws.specs.Prelude.{GrowthForm, MayGrow, Spec}
-use Rattle.exec_laws.specs.declared.growth.GrowthFlaw.TheVariants as flaw
-use Rattle.proc_api.specs.kinds.List.{IsListGrowth, list_growth}
-use Rattle.proc_api.specs.Prelude.{Files, IsSome, IsTrue, PartSpec, paths_in}
-use Rattle.query_model.specs.declared.processor_spec.Spec.TheVariants as spec
+use Rattle.exec_laws.specs.Names.{Acts, MayCall}
 use Rattle.exec_laws.specs.declared.edges.DueCall.{DueCall}
 use Rattle.exec_laws.specs.declared.edges.DueCall.TheVariants as call
 use Rattle.exec_laws.specs.declared.edges.NodeStatus.TheVariants as node
@@ -60,56 +52,6 @@ pub worked-due : {P : Type 0} (seen : P → BoxPicture) (t : Identity) (c : Node
 worked-due seen t c q k h a due = called-due seen t call.Work c q k h
     (acted-node (seen c.processor) (seen q) c.mark k (cell_ports c) h.holds.cell.node a
     (not-over seen t call.Work c h) (due-mark k (cell_ports c) (seen q) due)) due
-
--- ---- a growth that names nothing
-
-names-list : (list : PartSpec) (files : Option Files) (g : GrowthForm) → IsListGrowth list files g
-    → flaw_unreserved g ≡ None → ⊥
-names-list list files g h none = go (paths_in (Some h.text)) h.names_path h.is
-  where
-    go : (paths : List (List ℕ)) → 0 < length paths → g ≡ list_growth list paths → ⊥
-    go [] lt is = omega (arith, lt)
-    go (p ∷ ps) lt is = let some : 0 < length g.specs = rw is (omega arith) in
-        let z : Some flaw.TooManyNodes ≡ None = rw (lt-ltb 0 (length g.specs) some) at none in cc
-
--- a lawful box gives none
-names-something : (s : Option Spec) (files : Option Files) (g : GrowthForm)
-    → MayGrow s files (Some g) → flaw_unreserved g ≡ None → ⊥
-names-something (Some (spec.List list)) files g h none = names-list list files g h none
-names-something s files g h none = absurd h
-
-pub unlawful-grew : (g : GrowthForm) (p q : BoxPicture) → Grew g p q → flaw_unreserved g ≡ None
-    → IsTrue q.lawful → ⊥
-unlawful-grew g p q a none l =
-    names-something p.spec p.files g (a.grows (sym a.same.lawful ∙ l)) none
-
-grew-box : (m n : ℕ) (g : GrowthForm) (p q : BoxPicture) (c : PortsPicture) → Grew g p q
-    → flaw_unreserved g ≡ None → BoxHolds m n p (pulled_by c) (pushed_by c)
-    → BoxHolds m n q (pulled_by c) (pushed_by c)
-grew-box m n g p q c a none h = record {
-  running = record {
-    loaded = subst IsSome (sym a.same.spec) h.running.loaded;
-    faultless = a.faultless;
-    not_handed_out = a.not_handed_out;
-  };
-  still = λ l. absurd (unlawful-grew g p q a none l);
-  fits = λ l _. absurd (unlawful-grew g p q a none l);
-  keeps = λ l _. absurd (unlawful-grew g p q a none l);
-  nothing_past = h.nothing_past;
-  nothing_pushed_past = h.nothing_pushed_past;
-}
-
-pub grew-due : {P : Type 0} (seen : P → BoxPicture) (t : Identity) (c : NodeCell P) (q : P)
-    (k : NodeMark) (g : GrowthForm) → IsAtWork seen t call.Expand c
-    → Grew g (seen c.processor) (seen q) → flaw_unreserved g ≡ None
-    → k.state ≡ node.Due → IsDue seen t (record c { processor = q; mark = k })
-grew-due seen t c q k g h a none due = called-due seen t call.Expand c q k h record {
-  ports = h.holds.cell.node.ports;
-  box = grew-box _ _ g (seen c.processor) (seen q) (cell_ports c) a none h.holds.cell.node.box;
-  kept = λ _. follows-same (seen c.processor) (seen q) c.ports.view a.view
-      (h.holds.cell.node.kept (λ o. absurd (not-over seen t call.Expand c h o)));
-  mark = due-mark k (cell_ports c) (seen q) due;
-} due
 
 may-after : (a : Wake) (p q : BoxPicture) → Wakes a p q → MayCall (call_after a) q
 may-after wake.Ready p q w = search (rules, w)

@@ -5,4 +5,5 @@ pub mod Turns
 pub mod Ends
 pub mod Stored
 pub mod Visits
+pub mod NewReserves
 pub mod NewCells

@@ -5,7 +5,7 @@ use lib.ListN.{get_elem?}
 use Rattle.core_laws.specs.declared.types.Sizes.{Sizes}
 use Rattle.exec_table.specs.Seats.{IsRootOf, identity_of, sizes_in}
 use Rattle.exec_table.specs.declared.types.Updated.{Updated}
-use Rattle.exec_laws.specs.Names.{AreEdgesOf, HasEdge, IsPort, number_at, peer}
+use Rattle.exec_laws.specs.Names.{HasEdge, IsPort, number_at, peer}
 use Rattle.exec_laws.specs.Prelude.{Reserve, input_count, new_picture, output_count}
 use Rattle.exec_laws.specs.declared.edges.NodeStatus.TheVariants as node
 use Rattle.port_word.specs.declared.flags.Port.TheVariants.{Input, Output}
@@ -13,6 +13,9 @@ use Rattle.proc_api.specs.Graphs.{IsGraph}
 use Rattle.proc_api.specs.Reserves.{AreReserves, is_reserved}
 use Rattle.node_ports.specs.declared.ports.NodePorts.{NodePorts}
 use Rattle.node_cells.specs.Prelude.{BoxPicture, Identity, NodeCell, NodeMark, NodeSeat, Port, Wire, view}
+use Rattle.node_cells.specs.Cells.{cell_ports}
+use Rattle.node_cells.specs.Ends.{HasPlaces}
+use Rattle.node_cells.specs.NewReserves.{IsNewReserve}
 use Rattle.node_cells.specs.Stored.{IsStored}
 use Rattle.node_cells.specs.declared.new_cells.Cells.{Cells}
 use Rattle.node_cells.specs.declared.new_cells.NewNode.{NewNode}
@@ -87,17 +90,19 @@ abbrev pub first_mark : (reserved : Bool) → NodeMark
 first_mark true = record { state = node.Unborn; last = None }
 first_mark false = record { state = node.Due; last = None }
 
-pub record IsNewNodeAt (wires : List Wire) (reserves : List Reserve) (n : ℕ)
-    (x : NewNode) : Type 0 where
+pub record IsNewNodeAt (ranks : List ℕ) (wires : List Wire) (reserves : List Reserve)
+    (boxes : List BoxPicture) (n : ℕ) (x : NewNode) : Type 0 where
   pub ports : AreNewPorts wires n x.ports
   pub mark : x.mark ≡ first_mark (is_reserved reserves n)
+  pub reserve : IsNewReserve ranks reserves boxes n x.reserve
 
-abbrev pub AreNewNodes : List Wire → List Reserve → List NewNode → Type 0
-AreNewNodes wires reserves all =
-    (k : ℕ) (x : NewNode) → get_elem? all k ≡ some x → IsNewNodeAt wires reserves k x
+abbrev pub AreNewNodes : List ℕ → List Wire → List Reserve → List BoxPicture → List NewNode
+    → Type 0
+AreNewNodes ranks wires reserves boxes all = (k : ℕ) (x : NewNode) → get_elem? all k ≡ some x
+    → IsNewNodeAt ranks wires reserves boxes k x
 
 abbrev pub node_of_cell : {P : Type 0} → NodeCell P → NewNode
-node_of_cell c = record { ports = c.ports; mark = c.mark }
+node_of_cell c = record { ports = c.ports; mark = c.mark; reserve = c.reserve }
 
 -- each cell has the processor, the node and the seat at its place
 pub record Fills {P : Type 0} (cells : List (NodeCell P)) (boxes : List P) (nodes : List NewNode)
@@ -106,13 +111,20 @@ pub record Fills {P : Type 0} (cells : List (NodeCell P)) (boxes : List P) (node
   pub nodes_are : map node_of_cell cells ≡ nodes
   pub seats_are : map (λ (c : NodeCell P). c.seat) cells ≡ seats
 
+-- each cell has all of its node's reserve
+abbrev pub AreNewReserves : {P : Type 0} → List ℕ → List Reserve → List BoxPicture
+    → List (NodeCell P) → Type 0
+AreNewReserves {P} ranks reserves boxes cells = (k : ℕ) (x : NodeCell P)
+    → get_elem? cells k ≡ some x → IsNewReserve ranks reserves boxes k x.reserve
+
 -- the cell of node n of a new table
 pub record IsNewCell {P : Type 0} (seen : P → BoxPicture) (t : Identity) (n : ℕ)
     (c : NodeCell P) : Type 0 where
   pub stored : IsStored seen t c
   pub number : (view c.seat).number ≡ n
   pub mark : c.mark ≡ first_mark (is_reserved t.sizes.reserves n)
-  pub edges : AreEdgesOf t.sizes.wires n c.ports.inputs.items c.ports.outputs.items
+  pub places : HasPlaces t.sizes.wires (λ e. e) n c.ports.inputs.items c.ports.outputs.items
+      (cell_ports c)
 
 -- a new table of these sizes, its root, of which no worker was made, and the cells of its nodes in
 -- order of their numbers, with these processors

@@ -1,35 +1,54 @@
--- What stops the run of all at a node, and what the node's box keeps then.
-use Rattle.std.specs.Prelude.{Err, IsTrue, None, Ok, Option, Result, Some, if◌then◌else◌, length, nat_lt, ◌≡◌}
+-- What stops the run of all at a node, and what the node keeps then.
+use Rattle.std.specs.Prelude.{Err, IsTrue, List, None, Ok, Option, Result, Some, true, ⊤, ◌≡◌}
+use Rattle.exec_laws.specs.Growths.{Left}
 use Rattle.exec_laws.specs.Names.{KeepsFault}
 use Rattle.exec_laws.specs.Prelude.{BoxPicture, GrowthForm, MayGrow}
 use Rattle.exec_laws.specs.declared.growth.GrowthFlaw.{GrowthFlaw}
-use Rattle.exec_laws.specs.declared.growth.GrowthFlaw.TheVariants as flaw
+use Rattle.graph_checks.specs.Flaws.{flaw_over}
+use Rattle.graph_checks.specs.OwnWires.{own_wires}
+use Rattle.node_cells.specs.Cells.{cell_ports}
+use Rattle.node_cells.specs.declared.cell.NodeCell.{NodeCell}
+use Rattle.node_cells.specs.declared.cell.NodeReserve.{NodeReserve}
 use Rattle.node_cells.specs.declared.stop_cause.StopCause.{StopCause}
 use Rattle.node_cells.specs.declared.stop_cause.StopCause.TheVariants as cause
+use Rattle.node_ports.specs.Ports.{PortsHold}
+use Rattle.port_word.specs.declared.flags.Wire.{Wire}
+use Rattle.proc_api.specs.declared.status.WorkFault.{WorkFault}
 
--- the first flaw of a growth of a node without a reserve: only one that names nothing has none
-abbrev pub flaw_unreserved : GrowthForm → Option GrowthFlaw
-flaw_unreserved g =
-    if nat_lt 0 (length g.specs) then Some flaw.TooManyNodes
-    else if nat_lt 0 (length g.edges) then Some flaw.TooManyEdges
-    else None
+abbrev pub left_in : NodeReserve → Left
+left_in r = record { blanks = r.blanks.items; edges = r.edges }
 
--- the last growth that the box keeps has that flaw; a lawful box may give it
-pub record KeepsFlaw (f : GrowthFlaw) (p : BoxPicture) : Type 0 where
+-- the wires at the node, as it knows them
+abbrev pub wires_known : {P : Type 0} → NodeCell P → List Wire
+wires_known c = own_wires c.seat.node c.ports.sources.items c.ports.targets.items
+
+-- the first flaw of a growth of the node, by what the node itself knows
+abbrev pub own_flaw : {P : Type 0} → NodeCell P → GrowthForm → Option GrowthFlaw
+own_flaw c g =
+    flaw_over c.reserve.rank c.reserve.nodes (wires_known c) (left_in c.reserve) c.seat.node g
+
+-- the node's box was asked by what the graph grows, and keeps a growth with that flaw; a lawful
+-- box may give it
+pub record KeepsFlaw {P : Type 0} (seen : P → BoxPicture) (f : GrowthFlaw) (c : NodeCell P)
+    : Type 0 where
   pub growth : GrowthForm
-  pub kept : p.growth ≡ Some growth
-  pub flawed : flaw_unreserved growth ≡ Some f
-  pub may_grow : IsTrue p.lawful → MayGrow p.spec p.files (Some growth)
+  pub kept : (seen c.processor).growth ≡ Some growth
+  pub acted : (seen c.processor).notes.acted ≡ true
+  pub flawed : own_flaw c growth ≡ Some f
+  pub may_grow : let p : BoxPicture = seen c.processor in
+      IsTrue p.lawful → MayGrow p.spec p.files (Some growth)
+  pub ports : PortsHold (cell_ports c)
 
--- what the box of a node keeps at which the run was stopped
-abbrev pub StopHolds : StopCause → BoxPicture → Type 0
-StopHolds (cause.Fault f) p = KeepsFault f p
-StopHolds (cause.Flaw f) p = KeepsFlaw f p
+-- what a node keeps at which the run was stopped
+abbrev pub StopHolds : {P : Type 0} → (P → BoxPicture) → StopCause → NodeCell P → Type 0
+StopHolds seen (cause.Fault f) c = KeepsFault f (seen c.processor)
+StopHolds seen (cause.Flaw f) c = KeepsFlaw seen f c
+StopHolds seen cause.Memory c = ⊤
 
--- why a call stopped the run, if it did
-abbrev pub stop_of : {A : Type 0} → Result A StopCause → Option StopCause
+-- why a call of the processor stops the run, if it does: for a fault
+abbrev pub stop_of : {A : Type 0} → Result A WorkFault → Option StopCause
 stop_of (Ok x) = None
-stop_of (Err s) = Some s
+stop_of (Err f) = Some (cause.Fault f)
 
 -- What calls leave of the growth that a box keeps. A lawful one grew by nothing, unless the run was
 -- stopped for that, and then it had grown by nothing before.
@@ -37,3 +56,4 @@ abbrev pub GrowthStays : Option StopCause → BoxPicture → BoxPicture → Type
 GrowthStays None p q = IsTrue q.lawful → q.growth ≡ p.growth
 GrowthStays (Some (cause.Fault f)) p q = IsTrue q.lawful → q.growth ≡ p.growth
 GrowthStays (Some (cause.Flaw f)) p q = IsTrue q.lawful → p.growth ≡ None
+GrowthStays (Some cause.Memory) p q = ⊤

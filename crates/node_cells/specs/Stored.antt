@@ -26,14 +26,14 @@ pub record AwaitsBirth {P : Type 0} (seen : P → BoxPicture) (t : Identity) (c 
   pub free : (view c.seat).state.held ≡ false
 
 -- A node that never began may begin. One that rests, or is over, is at home. One between two steps
--- of work with its device is at home and held.
+-- of work with its device, or by which the graph is to grow, is at home and held.
 abbrev pub StoredAs : {P : Type 0} → (P → BoxPicture) → Identity → NodeStatus → NodeCell P → Type 0
 StoredAs seen t node.Unborn c = AwaitsBirth seen t c
 StoredAs seen t node.Due c = MayBegin seen t c
 StoredAs seen t node.Resting c = AtHome seen t c
 StoredAs seen t (node.AtWork call.Work) c = ⊥
 StoredAs seen t (node.AtWork call.Schedule) c = AtHome seen t c × IsAtWork seen t call.Schedule c
-StoredAs seen t (node.AtWork call.Expand) c = ⊥
+StoredAs seen t (node.AtWork call.Expand) c = AtHome seen t c × IsAtWork seen t call.Expand c
 StoredAs seen t node.Over c = AtHome seen t c
 
 abbrev pub IsStored : {P : Type 0} → (P → BoxPicture) → Identity → NodeCell P → Type 0

@@ -14,7 +14,7 @@ use Rattle.task_queue.specs.Tasks.{AreOffered}
 use Rattle.task_queue.specs.declared.queue.TaskQueue.{TaskQueue}
 use Rattle.task_queue.specs.declared.tasks.WorkerTasks.{WorkerTasks}
 use Rattle.exec_laws.specs.Names.{Acts, KeepsFault, StaysBox, state_after}
-use Rattle.node_cells.specs.Stops.{GrowthStays, KeepsFlaw, StopHolds}
+use Rattle.node_cells.specs.Stops.{GrowthStays, StopHolds}
 use Rattle.node_cells.specs.declared.stop_cause.StopCause.{StopCause}
 use Rattle.node_cells.specs.declared.stop_cause.StopCause.TheVariants as cause
 use Rattle.node_cells.specs.declared.node_run.RunEnd.{RunEnd}
@@ -41,17 +41,20 @@ turn_picture seen c = record {
 }
 
 -- what the calls of a turn leave of a cell, until that stops the run: the processor is the one that
--- it was, with what an end of the run says of its box, and the ports are the same ones
+-- it was, with what an end of the run says of its box, and the ports and the reserve are the same
 pub record Stays {P : Type 0} (seen : P → BoxPicture) (o : Option StopCause)
     (old new : NodeCell P) : Type 0 where
   pub box : StaysBox (seen old.processor) (seen new.processor)
   pub growth : GrowthStays o (seen old.processor) (seen new.processor)
   pub ports : SamePorts (cell_ports old) (cell_ports new)
+  pub reserve : new.reserve ≡ old.reserve
 
 -- what a call that isn't one of the processor leaves: the processor as it is, and the same ports
+-- and reserve
 pub record KeepsProcessor {P : Type 0} (old new : NodeCell P) : Type 0 where
   pub processor : new.processor ≡ old.processor
   pub ports : SamePorts (cell_ports old) (cell_ports new)
+  pub reserve : new.reserve ≡ old.reserve
 
 -- the cell of a node in a turn
 pub record TurnHolds {P : Type 0} (seen : P → BoxPicture) (t : Identity) (c : NodeCell P)
@@ -141,11 +144,11 @@ pub record IsAtWork {P : Type 0} (seen : P → BoxPicture) (t : Identity) (call 
   pub quiet : c.ports.view.actions ≡ []
   pub at_work : c.mark.state ≡ node.AtWork call
 
--- A call of the processor stopped the run, for what its box keeps. The node is still in its turn,
--- and so held: something stays pending.
+-- The run was stopped at the node, for what it keeps. The node is still in its turn, and so held:
+-- something stays pending.
 pub record IsStopped {P : Type 0} (seen : P → BoxPicture) (t : Identity) (s : StopCause)
     (c : NodeCell P) : Type 0 where
-  pub holds : StopHolds s (seen c.processor)
+  pub holds : StopHolds seen s c
   pub seat : IsSeatOf t c.seat
   pub turn : InTurn (view c.seat)
 
@@ -161,11 +164,13 @@ abbrev pub AnswersWake : Result Wake WorkFault → BoxPicture → BoxPicture →
 AnswersWake (Ok a) p q = Wakes a p q
 AnswersWake (Err f) p q = KeepsFault f q
 
--- The call that was due was made: the box has acted on its answer, or keeps what stopped the run.
+-- The call that was due was made: the box has acted on its answer, or keeps the fault that stopped
+-- the run. Nothing else stops it at a call.
 abbrev pub IsCalled : Option StopCause → BoxPicture → Type 0
 IsCalled None q = q.notes.acted ≡ true
 IsCalled (Some (cause.Fault f)) q = KeepsFault f q
-IsCalled (Some (cause.Flaw f)) q = (q.notes.acted ≡ true) × KeepsFlaw f q
+IsCalled (Some (cause.Flaw f)) q = ⊥
+IsCalled (Some cause.Memory) q = ⊥
 
 -- what comes after a step of work with a device: the box works where that was the last one
 abbrev pub WorksAfter : Result Wake WorkFault → Option StopCause → BoxPicture → BoxPicture → Type 0
@@ -190,13 +195,14 @@ abbrev pub call_after : Wake → DueCall
 call_after wake.Ready = call.Work
 call_after wake.Later = call.Schedule
 
--- what follows an answer: the call of the processor that it asks for, and no other
+-- What follows an answer: the call of the processor that it asks for, and no other. One that asks
+-- to grow waits for that.
 abbrev pub FollowsAnswer : Status → Option StopCause → BoxPicture → BoxPicture → Type 0
 FollowsAnswer status.NeedData o p q = q ≡ p
 FollowsAnswer status.PortFull o p q = q ≡ p
 FollowsAnswer status.Ready o p q = IsCalled o q
 FollowsAnswer status.Async o p q = Fetches o p q
-FollowsAnswer status.ExpandPipeline o p q = IsCalled o q
+FollowsAnswer status.ExpandPipeline o p q = q ≡ p
 FollowsAnswer status.Finished o p q = q ≡ p
 
 -- a turn of a node on a worker: it was prepared, what it did was carried out, the nodes that were
@@ -234,6 +240,7 @@ abbrev pub RunEndHolds : {P : Type 0} → (P → BoxPicture) → Identity → Ru
 RunEndHolds seen t run.Rests c = AtHome seen t c
     × ((c.mark.state ≡ node.Resting) ⊎ (c.mark.state ≡ node.Over))
 RunEndHolds seen t run.Waits c = AtHome seen t c × IsAtWork seen t call.Schedule c
+RunEndHolds seen t run.Grows c = AtHome seen t c × IsAtWork seen t call.Expand c
 
 -- the turn goes on, or ends so
 abbrev pub GoesOn : {P : Type 0} → (P → BoxPicture) → Identity → Option RunEnd → NodeCell P → Type 0

@@ -15,6 +15,7 @@
 //! - `node_visit.rt`: a visit of a node whose cell lies on a shelf
 //! - `stop_cause.rt`: why the run of all stops at a node
 //! - `new_cells.rt`: the cells of a new table, and how a wire is looked for at a node's port
+//! - `new_reserves.rt`: what each node may grow by in a graph that wasn't run
 //! - `settled_cells.rt`: what follows of all cells where nothing is pending
 //! - `specs/Cells.antt`: the law of a cell; `specs/Turns.antt`: where a cell is in its turn, and
 //!   what stays of it; `specs/Stops.antt`: what stops the run of all; `specs/Visits.antt`: what a
@@ -24,6 +25,7 @@
 mod calls;
 mod cell;
 mod new_cells;
+mod new_reserves;
 mod node_run;
 mod node_visit;
 mod node_word;
@@ -31,12 +33,16 @@ mod preparation;
 mod settled_cells;
 mod stop_cause;
 
-pub use calls::{expand, schedule, work};
-pub use cell::NodeCell;
-pub use new_cells::{Cells, count_inputs, count_outputs, ends_at, make_cells, peer_of};
+pub use calls::{call_after, schedule, schedule_box, work, work_box};
+pub use cell::{NodeCell, NodeReserve};
+pub use new_cells::{
+    Cells, count_inputs, count_outputs, edge_at, ends_at, holds_node, is_reserved, make_cells,
+    peer_of,
+};
+pub use new_reserves::reserve_of;
 pub use node_run::{RunEnd, resume, run_node};
 pub use node_visit::visit_node;
 pub use node_word::{begin, carry, leave, rest, wake};
-pub use preparation::prepare;
+pub use preparation::{prepare, shut_finished_ports, state_after};
 pub use settled_cells::law_of_settled_cells;
 pub use stop_cause::StopCause;

@@ -1,12 +1,14 @@
 //! Cells made of the seats of a new table.
 ghost use Rattle.std.specs.Prelude.{◌≡◌, ◌<◌, ◌≤◌, [], length, map, vec_capacity, IfErr, IfOk, ℕ};
-ghost use Rattle.exec_laws.specs.Names.{HasEdge, peer};
+ghost use Rattle.exec_laws.specs.Names.{HasEdge, peer, reserve_of};
 ghost use Rattle.exec_table.specs.Made.{IsNewTable};
 ghost use Rattle.proc_api.specs.Names.{input_count, output_count, wire_at};
 ghost use Rattle.proc_api.specs.Reserves.{AreStarting, holds_node, is_reserved};
-ghost use Rattle.node_cells.specs.NewCells.{AreEdgesAndPeers, AreNewCells, AreNewNodes, AreNewPorts, Fills, HasEdgeAt, HasPortsWithinLimits, IsGraphOfNodes, IsNewNodeAt, ends_at, first_mark, port_of_side, sizes_of};
+ghost use Rattle.node_cells.specs.NewReserves.{IsBlankReserve};
+ghost use Rattle.node_cells.specs.NewCells.{AreEdgesAndPeers, AreNewCells, AreNewNodes, AreNewPorts, AreNewReserves, Fills, HasEdgeAt, HasPortsWithinLimits, IsGraphOfNodes, IsNewNodeAt, ends_at, first_mark, port_of_side, sizes_of};
 
-use crate::cell::NodeCell;
+use crate::cell::{NodeCell, NodeReserve};
+use crate::new_reserves::new_reserve;
 use chunk_data::{List, Memory};
 use exec_laws::{NodeMark, NodeStatus};
 use exec_table::{ExecTable, Made, NodeSeat, RootSeat, Sizes, Updated};
@@ -28,6 +30,7 @@ pub struct Cells<P> {
 pub(crate) struct NewNode {
     pub ports: NodePorts,
     pub mark: NodeMark,
+    pub reserve: NodeReserve,
 }
 
 /// The edges at a side of a node, and the nodes at their other ends.
@@ -42,6 +45,7 @@ struct Ends {
 pub fn make_cells<P: Processor>(
     alloc: Global,
     boxes: Vec<P>,
+    ranks: &List<u32>,
     wires: &List<Wire>,
     reserves: &List<Reserve>,
     workers: u32,
@@ -51,9 +55,17 @@ pub fn make_cells<P: Processor>(
     requires starting { AreStarting reserves.now (map P.seen boxes.items) }
     ensures cells { IfOk result (λ c. AreNewCells P.seen
         (sizes_of (length boxes.items) wires.now reserves.now workers) boxes.items c) }
+    ensures reserves { IfOk result (λ c.
+        AreNewReserves ranks.now reserves.now (map P.seen boxes.items) c.cells.items) }
     ensures handed_back { IfErr result (λ b. b.items ≡ boxes.items) }
 {
-    let nodes = match new_nodes(alloc, boxes.len(), wires.as_slice(), reserves.as_slice()) {
+    let nodes = match new_nodes(
+        alloc,
+        &boxes,
+        ranks.as_slice(),
+        wires.as_slice(),
+        reserves.as_slice(),
+    ) {
         Ok(nodes) => nodes,
         Err(Memory) => return Err(boxes),
     };
@@ -125,48 +137,65 @@ fn fill_cells<P: Processor>(
 {
     for _node in 0..boxes.len() {
         let processor = boxes.remove(0);
-        let NewNode { ports, mark } = nodes.remove(0);
+        let NewNode {
+            ports,
+            mark,
+            reserve,
+        } = nodes.remove(0);
         let seat = seats.remove(0);
         cells.push_reserved(NodeCell {
             processor,
             mark,
             ports,
             seat,
+            reserve,
         });
     }
 }
 
-/// What so many nodes have before their first turns.
-fn new_nodes(
+/// What the node of each box has before its first turn.
+fn new_nodes<P: Processor>(
     alloc: Global,
-    count: usize,
+    boxes: &Vec<P>,
+    ranks: &[u32],
     wires: &[Wire],
     reserves: &[Reserve],
 ) -> Result<Vec<NewNode>, Memory>
-    requires { (n : ℕ) → HasPortsWithinLimits wires.now n }
-    ensures { IfOk result (λ all. (length all.items ≡ count)
-        × AreNewNodes wires.now reserves.now all.items) }
+    requires ports { (n : ℕ) → HasPortsWithinLimits wires.now n }
+    requires blank { (n : ℕ) →
+        IsBlankReserve (map P.seen boxes.now.items) (reserve_of reserves.now n) }
+    ensures { IfOk result (λ all. (length all.items ≡ length boxes.now.items) × AreNewNodes
+        ranks.now wires.now reserves.now (map P.seen boxes.now.items) all.items) }
 {
-    let mut all = Vec::with_capacity(alloc, count)?;
-    for n in 0..count {
-        let node = new_node(alloc, n, wires, reserves)?;
+    let mut all = Vec::with_capacity(alloc, boxes.len())?;
+    for n in 0..boxes.len() {
+        let node = new_node(alloc, boxes, n, ranks, wires, reserves)?;
         all.push(node)?;
     }
     Ok(all)
 }
 
-fn new_node(
+fn new_node<P: Processor>(
     alloc: Global,
+    boxes: &Vec<P>,
     n: usize,
+    ranks: &[u32],
     wires: &[Wire],
     reserves: &[Reserve],
 ) -> Result<NewNode, Memory>
-    requires { HasPortsWithinLimits wires.now n }
-    ensures { IfOk result (λ x. IsNewNodeAt wires.now reserves.now n x) }
+    requires ports { HasPortsWithinLimits wires.now n }
+    requires blank { IsBlankReserve (map P.seen boxes.now.items) (reserve_of reserves.now n) }
+    ensures { IfOk result (λ x.
+        IsNewNodeAt ranks.now wires.now reserves.now (map P.seen boxes.now.items) n x) }
 {
     let ports = new_ports(alloc, n, wires)?;
     let mark = first_mark(is_reserved(reserves, n));
-    Ok(NewNode { ports, mark })
+    let reserve = new_reserve(alloc, boxes, ranks, reserves, n)?;
+    Ok(NewNode {
+        ports,
+        mark,
+        reserve,
+    })
 }
 
 fn first_mark(reserved: bool) -> NodeMark
@@ -180,13 +209,15 @@ fn first_mark(reserved: bool) -> NodeMark
     NodeMark { state, last: None }
 }
 
-fn is_reserved(reserves: &[Reserve], n: usize) -> bool
+/// Whether a reserve holds the node.
+pub fn is_reserved(reserves: &[Reserve], n: usize) -> bool
     ensures { result ≡ is_reserved reserves.now n }
 {
     reserves.iter().any(|r| holds_node(r, n))
 }
 
-fn holds_node(reserve: &Reserve, n: usize) -> bool
+/// Whether the reserve holds the node.
+pub fn holds_node(reserve: &Reserve, n: usize) -> bool
     ensures { result ≡ holds_node n reserve.now }
 {
     let first = reserve.first_node as usize;
@@ -289,7 +320,7 @@ pub fn peer_of(wire: &Wire, port: Port) -> u32
 
 /// The edge at the port of a node.
 #[tactic(auto, unfolding(proc_api::specs::Settled::wire_at))]
-fn edge_at(wires: &[Wire], n: usize, port: Port) -> usize
+pub fn edge_at(wires: &[Wire], n: usize, port: Port) -> usize
     requires { HasEdgeAt wires.now n port }
     ensures { HasEdge wires.now n port result }
 {

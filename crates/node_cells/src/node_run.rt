@@ -7,15 +7,15 @@ ghost use Rattle.node_cells.specs.Stops.{stop_of};
 ghost use Rattle.node_cells.specs.Turns.{Fetches, FollowsAnswer, GoesOn, IsAtWork, IsCarried, IsDue, IsPrepared, IsStopped, KeepsProcessor, Queues, RunEndHolds, Stays, TakesTurns};
 ghost use Rattle.node_cells.specs.Visits.{Resumes};
 ghost use Rattle.exec_laws.specs.declared.edges.DueCall.TheVariants.{Schedule};
+ghost use Rattle.node_cells.specs.declared.stop_cause.StopCause.TheVariants.{Fault};
 
-use crate::calls::{expand, schedule, work};
+use crate::calls::{schedule, work};
 use crate::cell::NodeCell;
 use crate::node_word::{carry, leave, rest};
 use crate::preparation::prepare;
-use crate::stop_cause::StopCause;
 use exec_table::ExecTable;
 use node_ports::Carry;
-use proc_api::{Processor, Status, Wake};
+use proc_api::{Processor, Status, Wake, WorkFault};
 use std::sync::Wait;
 use task_queue::{TaskQueue, WorkerTasks};
 
@@ -26,6 +26,8 @@ pub enum RunEnd {
     Rests,
     /// Its device has nothing yet: it is to be queued again.
     Waits,
+    /// The graph is to grow by what its processor says.
+    Grows,
 }
 
 /// Whether a node that answered so rests or is over, unless a port changes meanwhile.
@@ -104,21 +106,22 @@ fn carry_all<P: Processor, R: Wait>(
 fn fetch<P: Processor>(
     table: &ExecTable,
     cell: &mut NodeCell<P>,
-) -> Result<Option<RunEnd>, StopCause>
+) -> Result<Option<RunEnd>, WorkFault>
     requires { IsAtWork P.seen (identity_of table.now) Schedule cell.old }
     ensures stays { Stays P.seen (stop_of result) cell.old cell.new }
     ensures fetches { Fetches (stop_of result) (P.seen cell.old.processor)
         (P.seen cell.new.processor) }
     ensures ok { IfOk result (λ end. GoesOn P.seen (identity_of table.now) end cell.new) }
-    ensures stop { IfErr result (λ s. IsStopped P.seen (identity_of table.now) s cell.new) }
+    ensures fault { IfErr result
+        (λ f. IsStopped P.seen (identity_of table.now) (Fault f) cell.new) }
 {
     match schedule(table, cell) {
         Ok(Wake::Later) => Ok(Some(RunEnd::Waits)),
         Ok(Wake::Ready) => match work(table, cell) {
             Ok(()) => Ok(None),
-            Err(stop) => Err(stop),
+            Err(fault) => Err(fault),
         },
-        Err(fault) => Err(StopCause::Fault(fault)),
+        Err(fault) => Err(fault),
     }
 }
 
@@ -128,13 +131,14 @@ fn follow<P: Processor>(
     table: &ExecTable,
     cell: &mut NodeCell<P>,
     status: Status,
-) -> Result<Option<RunEnd>, StopCause>
+) -> Result<Option<RunEnd>, WorkFault>
     requires { IsCarried P.seen (identity_of table.now) cell.old status }
     ensures stays { Stays P.seen (stop_of result) cell.old cell.new }
     ensures follows { FollowsAnswer status (stop_of result) (P.seen cell.old.processor)
         (P.seen cell.new.processor) }
     ensures ok { IfOk result (λ end. GoesOn P.seen (identity_of table.now) end cell.new) }
-    ensures stop { IfErr result (λ s. IsStopped P.seen (identity_of table.now) s cell.new) }
+    ensures fault { IfErr result
+        (λ f. IsStopped P.seen (identity_of table.now) (Fault f) cell.new) }
 {
     match status {
         Status::NeedData | Status::PortFull => {
@@ -150,24 +154,21 @@ fn follow<P: Processor>(
         }
         Status::Ready => match work(table, cell) {
             Ok(()) => Ok(None),
-            Err(stop) => Err(stop),
+            Err(fault) => Err(fault),
         },
         Status::Async => fetch(table, cell),
-        Status::ExpandPipeline => match expand(table, cell) {
-            Ok(()) => Ok(None),
-            Err(stop) => Err(stop),
-        },
+        Status::ExpandPipeline => Ok(Some(RunEnd::Grows)),
     }
 }
 
-/// Runs a due node until its cell may go home, or the run of all is to be stopped.
+/// Runs a due node until its cell may go home, or a call of its processor answers a fault.
 pub fn run_node<P: Processor, R: Wait>(
     rt: &R,
     table: &ExecTable,
     queue: &TaskQueue,
     tasks: &mut WorkerTasks,
     cell: &mut NodeCell<P>,
-) -> Result<RunEnd, StopCause>
+) -> Result<RunEnd, WorkFault>
     requires pass { IsPassOf queue.now tasks.old.pass }
     requires cell { IsDue P.seen (identity_of table.now) cell.old }
     ensures pass { IsPassOf queue.now tasks.new.pass }
@@ -175,7 +176,8 @@ pub fn run_node<P: Processor, R: Wait>(
     ensures turns { TakesTurns P.seen (identity_of table.now) queue.now (stop_of result)
         cell.old cell.new tasks.old tasks.new }
     ensures ok { IfOk result (λ end. RunEndHolds P.seen (identity_of table.now) end cell.new) }
-    ensures stop { IfErr result (λ s. IsStopped P.seen (identity_of table.now) s cell.new) }
+    ensures fault { IfErr result
+        (λ f. IsStopped P.seen (identity_of table.now) (Fault f) cell.new) }
 {
     for _ in rt.forever() {
         let status = prepare(table, cell);
@@ -183,7 +185,7 @@ pub fn run_node<P: Processor, R: Wait>(
         match follow(table, cell, status) {
             Ok(None) => {}
             Ok(Some(end)) => return Ok(end),
-            Err(stop) => return Err(stop),
+            Err(fault) => return Err(fault),
         }
     }
     unreachable!()
@@ -196,7 +198,7 @@ pub fn resume<P: Processor, R: Wait>(
     queue: &TaskQueue,
     tasks: &mut WorkerTasks,
     cell: &mut NodeCell<P>,
-) -> Result<RunEnd, StopCause>
+) -> Result<RunEnd, WorkFault>
     requires pass { IsPassOf queue.now tasks.old.pass }
     requires cell { IsAtWork P.seen (identity_of table.now) Schedule cell.old }
     ensures pass { IsPassOf queue.now tasks.new.pass }
@@ -204,11 +206,12 @@ pub fn resume<P: Processor, R: Wait>(
     ensures resumes { Resumes P.seen (identity_of table.now) queue.now (stop_of result)
         cell.old cell.new tasks.old tasks.new }
     ensures ok { IfOk result (λ end. RunEndHolds P.seen (identity_of table.now) end cell.new) }
-    ensures stop { IfErr result (λ s. IsStopped P.seen (identity_of table.now) s cell.new) }
+    ensures fault { IfErr result
+        (λ f. IsStopped P.seen (identity_of table.now) (Fault f) cell.new) }
 {
     match fetch(table, cell) {
         Ok(None) => run_node(rt, table, queue, tasks, cell),
         Ok(Some(end)) => Ok(end),
-        Err(stop) => Err(stop),
+        Err(fault) => Err(fault),
     }
 }

@@ -10,22 +10,22 @@ ghost use Rattle.task_queue.specs.Tasks.{OffersNumbers};
 use crate::cell::NodeCell;
 use crate::node_run::{RunEnd, resume, run_node};
 use crate::node_word::{begin, wake};
-use crate::stop_cause::StopCause;
 use exec_laws::{DueCall, NodeStatus};
 use exec_table::ExecTable;
-use proc_api::Processor;
+use proc_api::{Processor, WorkFault};
 use std::sync::Wait;
 use task_queue::{TaskQueue, WorkerTasks};
 
-/// Runs the node of a stored cell, if it is due a visit, until the cell may go home, or the run of
-/// all is to be stopped. A node that is over or unborn is due none.
+/// Runs the node of a stored cell, if it is due a visit, until the cell may go home, or a call of
+/// its processor answers a fault. A node that is over or unborn is due none, and one by which the
+/// graph is to grow waits for that.
 pub fn visit_node<P: Processor, R: Wait>(
     rt: &R,
     table: &ExecTable,
     queue: &TaskQueue,
     tasks: &mut WorkerTasks,
     cell: &mut NodeCell<P>,
-) -> Result<RunEnd, StopCause>
+) -> Result<RunEnd, WorkFault>
     requires pass { IsPassOf queue.now tasks.old.pass }
     requires stored { IsStored P.seen (identity_of table.now) cell.old }
     ensures pass { IsPassOf queue.now tasks.new.pass }
@@ -45,7 +45,8 @@ pub fn visit_node<P: Processor, R: Wait>(
             run_node(rt, table, queue, tasks, cell)
         }
         NodeStatus::AtWork(DueCall::Schedule) => resume(rt, table, queue, tasks, cell),
-        NodeStatus::AtWork(DueCall::Work | DueCall::Expand) => unreachable!(),
+        NodeStatus::AtWork(DueCall::Expand) => Ok(RunEnd::Grows),
+        NodeStatus::AtWork(DueCall::Work) => unreachable!(),
         NodeStatus::Over | NodeStatus::Unborn => Ok(RunEnd::Rests),
     }
 }

@@ -15,7 +15,7 @@ use port_word::PortView;
 use proc_api::{Processor, Status, shut_down};
 
 /// Where the processor has finished, leaves no port open. A lawful one leaves none itself.
-fn shut_finished_ports(status: Status, view: &mut PortView)
+pub fn shut_finished_ports(status: Status, view: &mut PortView)
     ensures { LeavesView status view.old view.new }
 {
     if let Status::Finished = status {
@@ -49,7 +49,8 @@ fn are_outputs_finished(view: &PortView) -> bool
     true
 }
 
-fn state_after(status: Status) -> NodeStatus
+/// What comes next with a node whose processor answered so.
+pub fn state_after(status: Status) -> NodeStatus
     ensures { result ≡ state_after status }
 {
     match status {
@@ -70,6 +71,7 @@ fn prepare_box<P: Processor>(cell: &mut NodeCell<P>) -> Status
     ensures ports { cell_ports cell.new
         ≡ record (cell_ports cell.old) { view = cell.new.ports.view } }
     ensures seat { cell.new.seat ≡ cell.old.seat }
+    ensures reserve { cell.new.reserve ≡ cell.old.reserve }
     ensures growth { (P.seen cell.new.processor).growth ≡ (P.seen cell.old.processor).growth }
 {
     let status = cell.processor.prepare(&mut cell.ports.view);

@@ -9,4 +9,6 @@ pub enum StopCause {
     Fault(WorkFault),
     /// Its processor asks that the graph grows by what has this flaw.
     Flaw(GrowthFlaw),
+    /// The graph was to grow at it, for which memory was wanting.
+    Memory,
 }

@@ -1,26 +1,50 @@
--- The boxes are given back.
-use Rattle.node_ends.proofs.Imports.{BoxPicture, GivenBack, GivesBox, IsBorn, List, NodeCell, None, Option, StaysBox, arith, box_at, boxes_in, get_or, get_or-map, get_or-set_other, get_or-set_same, length, length-map, length-set, map, map-set, set, ℕ, ◌<◌, ◌∙◌, ◌≡◌}
-use Rattle.exec_laws.proofs.Acting.{keeps-itself}
-use Rattle.exec_laws.proofs.BirthLaws.{gives-both, keeps-gives}
-use Rattle.exec_laws.proofs.Nodes.{at-node, not-blank}
+-- The boxes stay.
+use Rattle.node_ends.proofs.Imports.{BoxPicture, BoxStays, BoxesStay, GivenBack, List, NodeCell, None, Option, ap, arith, box_at, boxes_in, get_or, get_or-map, get_or-set_other, get_or-set_same, inl, inr, is_some, length, length-map, length-set, map, map-set, refl, set, sym, ℕ, ◌<◌, ◌∙◌, ◌≡◌}
+use Rattle.exec_laws.proofs.Acting.{stays-both, stays-itself}
+use Rattle.exec_laws.proofs.BirthLaws.{none-of}
+use Rattle.exec_laws.proofs.Nodes.{at-node}
 use Rattle.node_cells.proofs.StayLaws.{growth-both}
 use Rattle.node_cells.specs.Stops.{GrowthStays}
 use Rattle.node_cells.specs.declared.stop_cause.StopCause.{StopCause}
 use Rattle.node_ends.specs.RunEnds.{GrowthsStay, StopsAt}
 use Rattle.proc_api.specs.Names.{no_box}
 use Rattle.std.proofs.Common.{Some}
+use Rattle.std.proofs.lemmas.Bool.{cases_Bool}
 
-gives-stays : (p q : BoxPicture) → IsBorn p → StaysBox p q → GivesBox p q
-gives-stays p q born h = record {
-  born = λ _. h;
-  unborn = λ none. absurd (not-blank p.spec born none);
+-- ---- one box
+
+pub box-itself : (p : BoxPicture) → BoxStays p p
+box-itself p = record { born = λ _. stays-itself p; blank = λ _. refl }
+
+pub lawful-stays : (p q : BoxPicture) → BoxStays p q → q.lawful ≡ p.lawful
+lawful-stays p q h = elim (cases_Bool (is_some p.spec)) [
+  | inl some ↦ (h.born some).same.lawful
+  | inr none ↦ ap (λ (b : BoxPicture). b.lawful) (h.blank (none-of p.spec none))
+]
+
+pub box-both : (p q r : BoxPicture) → BoxStays p q → BoxStays q r → BoxStays p r
+box-both p q r h k = record {
+  born = λ born. stays-both p q r (h.born born) (k.born (rw (h.born born).same.spec born));
+  blank = λ none. k.blank (rw (h.blank none) none) ∙ h.blank none;
 }
 
--- boxes were given back, and those were given back
-pub given-both : (a b c : List BoxPicture) → GivenBack a b → GivenBack b c → GivenBack a c
-given-both a b c h k = record {
+-- ---- all boxes
+
+-- boxes stayed, and those stayed
+pub stayed-both : (a b c : List BoxPicture) → BoxesStay a b → BoxesStay b c → BoxesStay a c
+stayed-both a b c h k = record {
   count = k.count ∙ h.count;
-  each = λ n lt. gives-both _ _ _ (h.each n lt) (k.each n (omega (arith, lt, h.count)));
+  each = λ n lt. box-both _ _ _ (h.each n lt) (k.each n (omega (arith, lt, h.count)));
+}
+
+-- boxes that stay are given back
+pub stayed-given : (a b : List BoxPicture) → BoxesStay a b → GivenBack a b
+stayed-given a b h = record {
+  count = h.count;
+  each = λ n lt. record {
+    born = (h.each n lt).born;
+    unborn = λ none. inl ((h.each n lt).blank none);
+  };
 }
 
 -- what holds of a box that changed, and of each that didn't, holds at each place
@@ -43,38 +67,33 @@ at-changed {P} seen cells n x y lt read R same h k = rw map-set (at-node (λ k. 
     f c = seen c.processor
 
 -- a cell was read and changed
-pub given-changed : {P : Type 0} (seen : P → BoxPicture) (cells : List (NodeCell P)) (n : ℕ)
-    (x y : NodeCell P) → n < length cells → x ≡ get_or cells n x → IsBorn (seen x.processor)
-    → StaysBox (seen x.processor) (seen y.processor)
-    → GivenBack (boxes_in seen cells) (boxes_in seen (set cells n y))
-given-changed seen cells n x y lt read born h = record {
+pub stayed-changed : {P : Type 0} (seen : P → BoxPicture) (cells : List (NodeCell P)) (n : ℕ)
+    (x y : NodeCell P) → n < length cells → x ≡ get_or cells n x
+    → BoxStays (seen x.processor) (seen y.processor)
+    → BoxesStay (boxes_in seen cells) (boxes_in seen (set cells n y))
+stayed-changed seen cells n x y lt read h = record {
   count = rw (length-map, length-map) (length-set cells n y);
-  each = λ k less. at-changed seen cells n x y lt read GivesBox
-      (λ p. keeps-gives p p (keeps-itself p)) (gives-stays _ _ born h) k;
+  each = λ k less. at-changed seen cells n x y lt read BoxStays box-itself h k;
 }
 
 -- ---- the growths that boxes keep
 
-abbrev pub AreAllBorn : List BoxPicture → Type 0
-AreAllBorn boxes = (n : ℕ) → n < length boxes → IsBorn (box_at boxes n)
+module _ (a b c : List BoxPicture) (h : BoxesStay a b) (k : BoxesStay b c) (stay : GrowthsStay a b)
+  where
+    growth-at : (o : Option StopCause) (n : ℕ) → n < length a
+        → GrowthStays o (box_at b n) (box_at c n) → GrowthStays o (box_at a n) (box_at c n)
+    growth-at o n lt g = growth-both o (box_at a n) (box_at b n) (box_at c n)
+        (lawful-stays _ _ (k.each n (rw h.count lt))) (stay n lt) g
 
-module _ (a b c : List BoxPicture) (born : AreAllBorn b) (h : GivenBack a b) (k : GivenBack b c)
-    (stay : GrowthsStay a b) where
-  growth-at : (o : Option StopCause) (n : ℕ) → n < length a
-      → GrowthStays o (box_at b n) (box_at c n) → GrowthStays o (box_at a n) (box_at c n)
-  growth-at o n lt g = let below : n < length b = rw h.count lt in
-      growth-both o (box_at a n) (box_at b n) (box_at c n)
-      ((k.each n below).born (born n below)).same (stay n lt) g
+    -- where they stayed and stay they have stayed
+    pub growths-both : GrowthsStay b c → GrowthsStay a c
+    growths-both g n lt = growth-at None n lt (g n (rw h.count lt))
 
-  -- where they stayed and stay they have stayed
-  pub growths-both : GrowthsStay b c → GrowthsStay a c
-  growths-both g n lt = growth-at None n lt (g n (rw h.count lt))
-
-  -- what stops the run later stops it
-  pub stops-both : (n : ℕ) (s : StopCause) → StopsAt n s b c → StopsAt n s a c
-  stops-both n s g = record {
-    in_range = g.in_range;
-    stop = g.stop;
-    growth = let lt = g.in_range in
-        growth-at (Some s) n (omega (arith, lt, h.count, k.count)) g.growth;
-  }
+    -- what stops the run later stops it
+    pub stops-both : (n : ℕ) (s : StopCause) → StopsAt n s b c → StopsAt n s a c
+    stops-both n s g = record {
+      in_range = g.in_range;
+      stop = g.stop;
+      growth = let lt = g.in_range in
+          growth-at (Some s) n (omega (arith, lt, h.count, k.count)) g.growth;
+    }

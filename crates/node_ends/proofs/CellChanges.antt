@@ -1,56 +1,65 @@
 -- One cell is visited, and all cells after it.
-use Rattle.node_ends.proofs.Imports.{AreCells, BoxPicture, GivenBack, Identity, IsBetweenVisits, IsBorn, IsCellOf, List, NodeCell, None, Option, Stays, ap, at_index, at_set, box_at, boxes_in, get_elem?, get_or, get_or-map, get_or-set_same, length, length-map, length-set, map, map-set, refl, set, some, subst, sym, ℕ, ⊎_elim, ◌<◌, ◌∙◌, ◌≡◌, ◌≢◌}
+use Rattle.node_ends.proofs.Imports.{AreCells, BoxPicture, BoxesStay, CellGraph, Identity, IsCellOf, IsUnborn, List, NodeCell, None, Option, ap, at_index, at_set, box_at, boxes_in, get_elem?, get_or, get_or-map, get_or-set_same, length, length-map, length-set, map, map-set, refl, set, some, subst, sym, ℕ, ⊎_elim, ◌<◌, ◌∙◌, ◌≡◌, ◌≢◌}
 use Rattle.std.proofs.Common.{Err, IfErr, Ok, OnOk, Result}
-use Rattle.node_cells.specs.Stops.{GrowthStays, StopHolds, stop_of}
+use Rattle.std.specs.Result.{result_err}
+use Rattle.node_cells.proofs.StayLaws.{same-places}
+use Rattle.node_cells.specs.Stops.{GrowthStays}
+use Rattle.node_cells.specs.Stored.{IsStored}
+use Rattle.node_cells.specs.Visits.{LeavesCell}
 use Rattle.node_cells.specs.declared.stop_cause.StopCause.{StopCause}
-use Rattle.node_ends.proofs.Boxes.{AreAllBorn, at-changed, given-both, given-changed, growths-both, stops-both}
-use Rattle.node_ends.proofs.Lists.{read-map, there}
-use Rattle.node_ends.proofs.Visits.{stored-cell}
-use Rattle.node_ends.specs.RunEnds.{AreStoppedAt, AreVisited}
-use Rattle.exec_laws.specs.Names.{AreEdgesOf}
+use Rattle.node_ends.proofs.Boxes.{at-changed, growths-both, stayed-both, stayed-changed, stops-both}
+use Rattle.node_ends.proofs.Visits.{blank-unborn, unborn-blank}
+use Rattle.node_ends.specs.RunEnds.{AreStoppedAt, AreVisited, KeepsCause}
+use Rattle.port_word.specs.declared.flags.Port.{Port}
 use Rattle.proc_api.specs.Names.{no_box}
 
--- the boxes of the cells of all nodes are those of born ones
-pub all-born : {P : Type 0} (seen : P → BoxPicture) (t : Identity) (cells : List (NodeCell P))
-    → AreCells seen t cells → AreAllBorn (boxes_in seen cells)
-unfolding box_at
-all-born {P} seen t cells all n lt =
-    let c = there cells n (rw length-map at lt) in
-    subst IsBorn (sym (read-map (λ (c : NodeCell P). seen c.processor) cells n c.0 no_box c.1))
-    (stored-cell seen t c.0 (all.each n c.0 c.1).between).node.box.running.loaded
-
 module _ {P : Type 0} (seen : P → BoxPicture) (t : Identity) (cells : List (NodeCell P)) (n : ℕ)
-    (x : NodeCell P) (all : AreCells seen t cells) (lt : n < length cells)
-    (read : x ≡ get_or cells n x) where
+    (x : NodeCell P) (lt : n < length cells) (read : x ≡ get_or cells n x) where
   -- it is the cell of its node
-  pub own-cell : IsCellOf seen t n x
-  own-cell = all.each n x (at_index cells n x lt read)
+  pub own-cell : (g : CellGraph) → AreCells seen t g cells → IsCellOf seen t g n x
+  own-cell g all = all.each n x (at_index cells n x lt read)
 
-  module _ (o : Option StopCause) (y : NodeCell P) (stays : Stays seen o x y) where
-    -- the boxes are given back
-    boxes-back : GivenBack (boxes_in seen cells) (boxes_in seen (set cells n y))
-    boxes-back = given-changed seen cells n x y lt read
-        (stored-cell seen t x own-cell.between).node.box.running.loaded stays.box
-
-    changed : IsBetweenVisits seen t y → IsCellOf seen t n y
-    changed h = record {
-      between = h;
-      number = stays.ports.number ∙ own-cell.number;
-      edges = subst (λ (l : List ℕ × List ℕ). AreEdgesOf t.sizes.wires n l.0 l.1)
-          (λ j. (sym stays.ports.inputs j, sym stays.ports.outputs j)) own-cell.edges;
+  module _ (o : Option StopCause) (y : NodeCell P) (leaves : LeavesCell seen t o x y) where
+    -- the boxes stay
+    boxes-back : BoxesStay (boxes_in seen cells) (boxes_in seen (set cells n y))
+    boxes-back = stayed-changed seen cells n x y lt read record {
+      born = λ _. leaves.stays.box;
+      blank = λ none. ap (λ (c : NodeCell P). seen c.processor) (leaves.blank none);
     }
 
-    -- the cells are still those of all nodes
-    cells-changed : IsBetweenVisits seen t y → AreCells seen t (set cells n y)
-    cells-changed h = record {
-      count = length-set cells n y ∙ all.count;
-      graph = rw length-set all.graph;
-      each = λ k c e. ⊎_elim
-          (λ (z : (k ≡ n) × (y ≡ c)). subst (λ (p : ℕ × NodeCell P). IsCellOf seen t p.0 p.1)
-          (λ j. (sym z.0 j, z.1 j)) (changed h))
-          (λ (z : (k ≢ n) × (get_elem? cells k ≡ some c)). all.each k c z.1)
-          (at_set cells n k y c e);
-    }
+    module _ (g : CellGraph) (all : AreCells seen t g cells) (stored : IsStored seen t y) where
+      own : IsCellOf seen t g n x
+      own = own-cell g all
+
+      unborn-before : IsUnborn y → IsUnborn x
+      unborn-before u = blank-unborn seen t x own.stored
+          (sym leaves.stays.box.same.spec ∙ unborn-blank seen t y stored u)
+
+      changed : IsCellOf seen t g n y
+      changed = record {
+        stored = stored;
+        number = leaves.stays.ports.number ∙ own.number;
+        places = λ born. same-places g.wires g.table_edge n (g.inputs n)
+            (g.outputs n) _ _ leaves.stays.ports
+            (own.places (λ u. born (rw (leaves.blank (unborn-blank seen t x own.stored u)) u)));
+      }
+
+      -- the cells are still those of all nodes
+      cells-changed : AreCells seen t g (set cells n y)
+      cells-changed = record {
+        count = length-set cells n y ∙ all.count;
+        graph = rw length-set all.graph;
+        each = λ k c e. ⊎_elim
+            (λ (z : (k ≡ n) × (y ≡ c)). subst (λ (p : ℕ × NodeCell P). IsCellOf seen t g p.0 p.1)
+            (λ j. (sym z.0 j, z.1 j)) changed)
+            (λ (z : (k ≢ n) × (get_elem? cells k ≡ some c)). all.each k c z.1)
+            (at_set cells n k y c e);
+        joined = λ e k p c h at unborn. ⊎_elim
+            (λ (z : (k ≡ n) × (y ≡ c)). all.joined e k p x h
+            (rw z.0 (at_index cells n x lt read)) (unborn-before (rw z.1 unborn)))
+            (λ (z : (k ≢ n) × (get_elem? cells k ≡ some c)). all.joined e k p c h z.1 unborn)
+            (at_set cells n k y c at);
+      }
 
   abbrev f : NodeCell P → BoxPicture
   f c = seen c.processor
@@ -65,29 +74,28 @@ module _ {P : Type 0} (seen : P → BoxPicture) (t : Identity) (cells : List (No
 
   -- where it stopped nothing these are the cells of all nodes after it
   pub visited-at : {A : Type 0} (r : Result A StopCause) (y : NodeCell P)
-      → Stays seen (stop_of r) x y → OnOk r (IsBetweenVisits seen t y)
-      → OnOk r (AreVisited seen t cells (set cells n y))
-  visited-at (Ok v) y stays between = record {
-    cells = cells-changed _ y stays between;
+      → LeavesCell seen t (result_err r) x y → OnOk r (AreVisited seen t cells (set cells n y))
+  visited-at (Ok v) y leaves = record {
+    cells = λ g all. cells-changed _ y leaves g all leaves.lies;
     count = length-set cells n y;
-    back = boxes-back _ y stays;
-    growth = λ k less.
-        at-changed seen cells n x y lt read (GrowthStays None) (λ p lawful. refl) stays.growth k;
+    back = boxes-back _ y leaves;
+    growth = λ k less. at-changed seen cells n x y lt read (GrowthStays None) (λ p lawful. refl)
+        leaves.stays.growth k;
   }
-  visited-at (Err s) y stays between = tt
+  visited-at (Err s) y leaves = tt
 
   -- what stops the run at its box stops it at its node
   pub stops-at : {A : Type 0} (r : Result A StopCause) (y : NodeCell P)
-      → Stays seen (stop_of r) x y → IfErr r (λ s. StopHolds s (seen y.processor))
+      → LeavesCell seen t (result_err r) x y → IfErr r (λ s. KeepsCause s (seen y.processor))
       → IfErr r (λ s. AreStoppedAt seen n s cells (set cells n y))
-  stops-at (Ok v) y stays h = tt
-  stops-at (Err s) y stays h = record {
+  stops-at (Ok v) y leaves h = tt
+  stops-at (Err s) y leaves h = record {
     count = length-set cells n y;
-    back = boxes-back _ y stays;
+    back = boxes-back _ y leaves;
     stop = record {
       in_range = rw (length-map, length-set) lt;
       stop = rw (here y) h;
-      growth = rw (here y, before) stays.growth;
+      growth = rw (here y, before) leaves.stays.growth;
     };
   }
 
@@ -97,15 +105,15 @@ module _ {P : Type 0} (seen : P → BoxPicture) (t : Identity) (a b c : List (No
     (h : AreVisited seen t a b) where
   pub visited-both : AreVisited seen t b c → AreVisited seen t a c
   visited-both k = record {
-    cells = k.cells;
+    cells = λ g all. k.cells g (h.cells g all);
     count = k.count ∙ h.count;
-    back = given-both _ _ _ h.back k.back;
-    growth = growths-both _ _ _ (all-born seen t b h.cells) h.back k.back h.growth k.growth;
+    back = stayed-both _ _ _ h.back k.back;
+    growth = growths-both _ _ _ h.back k.back h.growth k.growth;
   }
 
   pub stopped-both : (n : ℕ) (s : StopCause) → AreStoppedAt seen n s b c → AreStoppedAt seen n s a c
   stopped-both n s k = record {
     count = k.count ∙ h.count;
-    back = given-both _ _ _ h.back k.back;
-    stop = stops-both _ _ _ (all-born seen t b h.cells) h.back k.back h.growth n s k.stop;
+    back = stayed-both _ _ _ h.back k.back;
+    stop = stops-both _ _ _ h.back k.back h.growth n s k.stop;
   }

@@ -1,10 +1,10 @@
 -- The end of a run in which nothing is pending.
-use Rattle.node_ends.proofs.Imports.{Bool, BoxPicture, CellPicture, ContradictsStatus, HoldsGraph, IsDone, IsSettled, IsStuck, List, MarkTells, NodeCell, Option, StuckNode, SupportsStatus, Wire, [], ap, append-nil, append_assoc, arith, box_at, boxes_in, boxes_of, cell_at, cond, drop, false, get_or, get_or-map, is_resting, length, length-map, map-map, picture_of, pictures, pictures_of, refl, stuck_from, subst, suc, sym, true, turn_picture, whole_of, wholes_of, ℕ, ◌++◌, ◌+◌, ◌<◌, ◌∙◌, ◌∷◌, ◌≡◌}
+use Rattle.node_ends.proofs.Imports.{Bool, BoxPicture, CellGraph, CellPicture, ContradictsStatus, IsDone, IsSettled, IsStuck, List, MarkTells, NodeCell, Option, StuckNode, SupportsStatus, WholeCell, Wire, [], ap, append-nil, append_assoc, arith, at_map, box_at, boxes_in, boxes_of, cell_at, cond, drop, false, get_elem?, get_or, get_or-map, is_resting, length, length-map, map-map, picture_of, pictures, pictures_of, refl, some, stuck_from, subst, suc, sym, true, turn_picture, whole_at, whole_of, wholes_of, ℕ, ◌++◌, ◌+◌, ◌<◌, ◌∙◌, ◌∷◌, ◌≡◌}
 use Rattle.node_cells.proofs.EndLaws.{due, end-law, quiet, running}
 use Rattle.exec_laws.proofs.Ends.{box-of, marks-tell}
 use Rattle.exec_laws.specs.Names.{no_cell}
-use Rattle.node_cells.specs.Ends.{edge_of_board, whole_at}
-use Rattle.port_word.specs.Names.{no_flags}
+use Rattle.node_cells.specs.Ends.{edge_of_board}
+use Rattle.node_ends.proofs.Lists.{read-map, there}
 use Rattle.proc_api.specs.Names.{no_box}
 use Rattle.std.proofs.Common.{drop-cons}
 use Rattle.proc_api.specs.declared.status.Status.{Status}
@@ -13,63 +13,69 @@ use Rattle.node_ends.specs.declared.node_ends.NodesEnd.{NodesEnd}
 use Rattle.node_ends.specs.declared.node_ends.NodesEnd.TheVariants as end
 
 module _ {P : Type 0} (seen : P → BoxPicture) (cells : List (NodeCell P)) where
-  -- the pictures of the cells are those that the laws of ends speak of, and so are the boxes
-  pub pictures-are : pictures (wholes_of seen cells) ≡ pictures_of seen cells
-  pictures-are = map-map picture_of (whole_of seen) cells
-
   pub boxes-are : boxes_of (pictures_of seen cells) ≡ boxes_in seen cells
   boxes-are = map-map (λ (c : CellPicture). c.box) (turn_picture seen) cells
 
-  count : length (pictures (wholes_of seen cells)) ≡ length cells
-  count = ap length pictures-are ∙ length-map cells (turn_picture seen)
+  module _ (g : CellGraph) (s : IsSettled g (wholes_of seen g cells)) where
+    abbrev wholes : List WholeCell
+    wholes = wholes_of seen g cells
 
-  -- a run of no node is done
-  pub empty-done : (wires : List Wire) → HoldsGraph (length cells) wires → length cells ≡ 0
-      → IsDone wires (boxes_in seen cells)
-  empty-done wires graph none = record {
-    pulled = λ n i. [];
-    pushed = λ n o. [];
-    ports = λ e. no_flags;
-    over = λ n lt. absurd (nowhere n lt);
-    running = λ n lt. absurd (nowhere n lt);
-    each = λ n lt. absurd (nowhere n lt);
-    joined = λ e lt. let from = (graph.graph.so_far.edges e lt).from_in_range in
-        absurd (omega (arith, none, graph.nodes_len, from));
-  }
-    where
-      nowhere : (n : ℕ) → n < length (boxes_in seen cells) → ⊥
-      nowhere n lt = let many = length-map cells (λ (c : NodeCell P). seen c.processor) in
-          omega (arith, lt, many, none)
+    -- the boxes are those of the pictures that the laws of ends speak of
+    law-boxes : boxes_of (pictures wholes) ≡ boxes_in seen cells
+    law-boxes = map-map (λ (c : CellPicture). c.box) picture_of wholes
+        ∙ map-map (λ (w : WholeCell). w.box) (whole_of seen g) cells
 
-  module _ (wires : List Wire) (s : IsSettled wires (wholes_of seen cells)) where
+    count : length (pictures wholes) ≡ length cells
+    count = length-map wholes picture_of ∙ length-map cells (whole_of seen g)
+
+    -- what a picture says but for the numbers of its edges it says of its cell
+    module _ (Q : CellPicture → Type 0) (n : ℕ) (lt : n < length cells) where
+      own : (c : NodeCell P) × (get_elem? cells n ≡ some c)
+      own = there cells n lt
+
+      by-law : cell_at (pictures wholes) n ≡ picture_of (whole_of seen g own.0)
+      by-law = read-map picture_of wholes n _ no_cell (at_map (whole_of seen g) cells n own.0 own.1)
+
+      by-turn : cell_at (pictures_of seen cells) n ≡ turn_picture seen own.0
+      by-turn = read-map (turn_picture seen) cells n own.0 no_cell own.1
+
+      to-law : ((c : NodeCell P) → Q (turn_picture seen c) → Q (picture_of (whole_of seen g c)))
+          → Q (cell_at (pictures_of seen cells) n) → Q (cell_at (pictures wholes) n)
+      to-law same h = subst Q (sym by-law) (same own.0 (subst Q by-turn h))
+
+      from-law : ((c : NodeCell P) → Q (picture_of (whole_of seen g c)) → Q (turn_picture seen c))
+          → Q (cell_at (pictures wholes) n) → Q (cell_at (pictures_of seen cells) n)
+      from-law same h = subst Q (sym by-turn) (same own.0 (subst Q by-law h))
+
     -- the marks say what the boxes last answered
     pub cells-tell : (n : ℕ) → n < length cells → MarkTells (cell_at (pictures_of seen cells) n)
-    cells-tell n lt = subst (λ l. MarkTells (cell_at l n)) pictures-are
-        (marks-tell wires (pictures (wholes_of seen cells))
-        (edge_of_board wires s.board (whole_at (wholes_of seen cells)))
-        (running wires s.board (wholes_of seen cells) s.settled)
-        (quiet wires s.board (wholes_of seen cells) s.settled)
-        (due wires s.board (wholes_of seen cells) s.settled) n (omega (arith, lt, count)))
+    cells-tell n lt = from-law MarkTells n lt
+        (λ c h. record { unfinished = h.unfinished; last = h.last; may_rest = h.may_rest })
+        (marks-tell g.wires (pictures wholes)
+        (edge_of_board g.wires g.table_edge s.board (whole_at wholes))
+        (running g.wires g.table_edge s.board wholes s.settled)
+        (quiet g.wires g.table_edge s.board wholes s.settled)
+        (due g.wires g.table_edge s.board wholes s.settled) n (omega (arith, lt, count)))
 
     -- where each view supports its status the run is done
     pub settled-done
         : ((n : ℕ) → n < length cells → SupportsStatus (cell_at (pictures_of seen cells) n))
-        → IsDone wires (boxes_in seen cells)
-    settled-done rests = subst (IsDone wires) (ap boxes_of pictures-are ∙ boxes-are)
-        ((end-law wires s.board (wholes_of seen cells) s.settled).done
-        (λ n lt. subst (λ l. SupportsStatus (cell_at l n)) (sym pictures-are)
-        (rests n (omega (arith, lt, count)))))
+        → IsDone g.wires (boxes_in seen cells)
+    settled-done rests = subst (IsDone g.wires) law-boxes
+        ((end-law g.wires g.table_edge s.board wholes s.settled).done
+        (λ n lt. let less : n < length cells = omega (arith, lt, count) in
+        to-law SupportsStatus n less (λ c h. h) (rests n less)))
 
     -- where one contradicts it the run is stuck there
     pub settled-stuck : (n : ℕ) (report : List StuckNode) → n < length cells
         → ContradictsStatus (cell_at (pictures_of seen cells) n)
         → report ≡ stuck_from 0 (boxes_in seen cells) → IsStuck (boxes_in seen cells) report n
-    settled-stuck n report lt denied lists =
-        subst (λ l. IsStuck l report n) (ap boxes_of pictures-are ∙ boxes-are)
-        ((end-law wires s.board (wholes_of seen cells) s.settled).stuck n report
+    settled-stuck n report lt denied lists = subst (λ l. IsStuck l report n) law-boxes
+        ((end-law g.wires g.table_edge s.board wholes s.settled).stuck n report
         (omega (arith, lt, count))
-        (subst (λ l. ContradictsStatus (cell_at l n)) (sym pictures-are) denied)
-        (lists ∙ ap (stuck_from 0) (sym (ap boxes_of pictures-are ∙ boxes-are))))
+        (to-law ContradictsStatus n lt
+        (λ c h. record { resting = h.resting; denied = h.denied }) denied)
+        (lists ∙ ap (stuck_from 0) (sym law-boxes)))
 
 -- ---- the report
 

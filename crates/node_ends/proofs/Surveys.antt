@@ -1,7 +1,9 @@
 -- The cells after a survey, whose seats know what they knew.
-use Rattle.node_ends.proofs.Imports.{AreAll, AreCells, AreSurveyed, AtHome, BoxPicture, EachSeat, GivenBack, Identity, IsAtWork, IsBack, IsCellOf, IsSeatOf, List, MayBegin, NodeBody, NodeCell, NodeSeat, NodeStatus, StoredAs, Surveyed, [], ap, arith, at_map, bodies_of, body_of, boxes_in, cell_ports, get_elem?, length, length-map, map, map-map, refl, seats_of, some, some-injective, subst, suc, sym, view, views, ℕ, ◌∙◌, ◌∷◌, ◌≡◌, ◌≢◌}
+use Rattle.node_ends.proofs.Imports.{AreAll, AreCells, AreSurveyed, AtHome, BoxPicture, BoxesStay, CellGraph, EachSeat, HasPlaces, Identity, IsAtWork, IsBack, IsCellOf, IsSeatOf, List, MayBegin, NodeBody, NodeCell, NodeSeat, NodeStatus, StoredAs, Surveyed, [], ap, arith, at_map, bodies_of, body_of, boxes_in, cell_ports, get_elem?, length, length-map, map, map-map, refl, seats_of, some, some-injective, subst, suc, sym, view, views, ℕ, ◌∙◌, ◌∷◌, ◌≡◌}
 use Rattle.node_ends.proofs.Lists.{below, there}
-use Rattle.node_ends.proofs.Visits.{stored-cell}
+use Rattle.node_cells.proofs.VisitLaws.{seat-as}
+use Rattle.node_cells.specs.Stored.{AwaitsBirth}
+use Rattle.node_ports.specs.Ports.{PortsHold, pulled_by, pushed_by}
 use Rattle.node_ends.specs.RunEnds.{AreVisited, GrowthsStay}
 use Rattle.node_cells.specs.Cells.{CellHolds, CellNodeHolds, IsHome}
 use Rattle.exec_laws.specs.declared.edges.DueCall.{DueCall}
@@ -53,23 +55,35 @@ module _ {P : Type 0} (seen : P → BoxPicture) (t : Identity) (was : NodeCell P
     at_work = h.at_work;
   }
 
-  back-stored : (k : NodeStatus) → k ≢ node.Unborn → StoredAs seen t k was → StoredAs seen t k now
-  back-stored node.Unborn born h = absurd (born refl)
-  back-stored node.Due born h = back-begins h
-  back-stored node.Resting born h = back-home h
-  back-stored (node.AtWork call.Work) born h = h
-  back-stored (node.AtWork call.Schedule) born h = (back-home h.0, back-work call.Schedule h.1)
-  back-stored (node.AtWork call.Expand) born h = h
-  back-stored node.Over born h = back-home h
+  back-unborn : AwaitsBirth seen t was → AwaitsBirth seen t now
+  back-unborn h = record {
+    seat = back.0;
+    blank = h.blank;
+    ports = subst PortsHold same-ports h.ports;
+    new_view = h.new_view;
+    pulled = subst (λ c. (i : ℕ) → pulled_by c i ≡ []) same-ports h.pulled;
+    pushed = subst (λ c. (o : ℕ) → pushed_by c o ≡ []) same-ports h.pushed;
+    unborn = rw back.1 h.unborn;
+    tokens = rw back.1 h.tokens;
+    owes = rw back.1 h.owes;
+    free = rw back.1 h.free;
+  }
 
-  back-is : (n : ℕ) → IsCellOf seen t n was → IsCellOf seen t n now
-  back-is n h = record {
-    between = record {
-      stored = back-stored was.mark.state h.between.born h.between.stored;
-      born = h.between.born;
-    };
+  back-stored : (k : NodeStatus) → StoredAs seen t k was → StoredAs seen t k now
+  back-stored node.Unborn h = back-unborn h
+  back-stored node.Due h = back-begins h
+  back-stored node.Resting h = back-home h
+  back-stored (node.AtWork call.Work) h = h
+  back-stored (node.AtWork call.Schedule) h = (back-home h.0, back-work call.Schedule h.1)
+  back-stored (node.AtWork call.Expand) h = (back-home h.0, back-work call.Expand h.1)
+  back-stored node.Over h = back-home h
+
+  back-is : (g : CellGraph) (n : ℕ) → IsCellOf seen t g n was → IsCellOf seen t g n now
+  back-is g n h = record {
+    stored = back-stored was.mark.state h.stored;
     number = rw back.1 h.number;
-    edges = h.edges;
+    places = λ born. subst (HasPlaces g.wires g.table_edge n (g.inputs n) (g.outputs n)) same-ports
+        (h.places born);
   }
 
 -- ---- all cells
@@ -86,14 +100,16 @@ same-views t (x ∷ xs) (y ∷ ys) many e =
     λ j. is j ∷ more j
 
 -- the seats of the cells of all nodes are those of all nodes
-pub all-seats : {P : Type 0} (seen : P → BoxPicture) (t : Identity) (cells : List (NodeCell P))
-    → AreCells seen t cells → AreAll t (seats_of cells)
-all-seats {P} seen t cells all = (
+pub all-seats : {P : Type 0} (seen : P → BoxPicture) (t : Identity) (g : CellGraph)
+    (cells : List (NodeCell P)) → AreCells seen t g cells → AreAll t (seats_of cells)
+all-seats {P} seen t g cells all = (
   length-map cells (λ (c : NodeCell P). c.seat) ∙ all.count,
   λ n s e. let c = there cells n (rw length-map at (below (seats_of cells) n s e)) in
       subst (λ s. IsSeatOf t s × ((view s).number ≡ n))
-      (some-injective _ _ (sym (at_map (λ (c : NodeCell P). c.seat) cells n c.0 c.1) ∙ e))
-      ((stored-cell seen t c.0 (all.each n c.0 c.1).between).seat, (all.each n c.0 c.1).number),
+      (some-injective _ _ (sym (at_map (λ (c : NodeCell P). c.seat) cells n c.0 c.1) ∙ e)) (
+        seat-as seen t c.0.mark.state c.0 (all.each n c.0 c.1).stored,
+        (all.each n c.0 c.1).number,
+      ),
 )
 
 module _ {P : Type 0} (t : Identity) (olds news : List (NodeCell P)) (h : AreSurveyed t olds news)
@@ -127,6 +143,7 @@ module _ {P : Type 0} (t : Identity) (olds news : List (NodeCell P)) (h : AreSur
             mark = (same j).mark;
             ports = (same j).ports;
             seat = c.seat;
+            reserve = (same j).reserve;
           },
           subst (λ s. IsBack t s c.seat) own seat.2,
         )
@@ -143,21 +160,23 @@ module _ {P : Type 0} (t : Identity) (olds news : List (NodeCell P)) (h : AreSur
       surveyed-holds Q h = subst Q (sym surveyed-boxes) h
 
       -- the cells are still those of all nodes
-      surveyed-cells : AreCells seen t olds → AreCells seen t news
-      surveyed-cells all = record {
+      surveyed-cells : (g : CellGraph) → AreCells seen t g olds → AreCells seen t g news
+      surveyed-cells g all = record {
         count = surveyed-count ∙ all.count;
         graph = rw surveyed-count all.graph;
-        each = λ n c e. let w = cell-was n c e in subst (IsCellOf seen t n) (sym w.2)
-            (back-is seen t w.0 c.seat w.3 n (all.each n w.0 w.1));
+        each = λ n c e. let w = cell-was n c e in subst (IsCellOf seen t g n) (sym w.2)
+            (back-is seen t w.0 c.seat w.3 g n (all.each n w.0 w.1));
+        joined = λ e n p c h at unborn. let w = cell-was n c at in
+            all.joined e n p w.0 h w.1 (rw w.2 at unborn);
       }
 
       -- and what visits before it left is left
       pub surveyed-visited : (first : List (NodeCell P)) → AreVisited seen t first olds
           → AreVisited seen t first news
       surveyed-visited first v = record {
-        cells = surveyed-cells v.cells;
+        cells = λ g all. surveyed-cells g (v.cells g all);
         count = surveyed-count ∙ v.count;
-        back = surveyed-holds (GivenBack _) v.back;
+        back = surveyed-holds (BoxesStay _) v.back;
         growth = surveyed-holds (GrowthsStay _) v.growth;
       }
 

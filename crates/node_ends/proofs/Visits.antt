@@ -1,16 +1,19 @@
 -- What the cell of a node says between two visits.
-use Rattle.node_ends.proofs.Imports.{AtHome, BoxPicture, Identity, IsBetweenVisits, NodeCell, NodeStatus, None, Stays, StoredAs, false, is_waiting, refl, subst, true, ◌≡◌, ◌≢◌}
+use Rattle.node_ends.proofs.Imports.{AtHome, BoxPicture, Identity, IsBorn, IsUnborn, NodeCell, NodeStatus, None, StoredAs, false, is_waiting, refl, true, ◌≡◌, ◌≢◌, subst}
 use Rattle.exec_laws.specs.declared.edges.DueCall.TheVariants as call
 use Rattle.exec_laws.specs.declared.edges.NodeStatus.TheVariants as node
 use Rattle.exec_laws.proofs.Nodes.{not-blank}
 use Rattle.node_cells.proofs.StayLaws.{keeps-stays}
 use Rattle.node_cells.specs.Cells.{CellHolds}
 use Rattle.node_cells.specs.Stored.{AwaitsBirth, IsStored}
+use Rattle.node_cells.specs.Visits.{LeavesCell}
+use Rattle.node_ports.proofs.LoopLaws.{same-ports}
 
 module _ {P : Type 0} (seen : P → BoxPicture) (t : Identity) (c : NodeCell P) where
-  -- where nothing more is due, the cell is at home
-  pub at-rest-home : IsBetweenVisits seen t c → is_waiting c.mark.state ≡ false → AtHome seen t c
-  at-rest-home h rest = by c.mark.state h.stored h.born rest
+  -- where nothing more is due of a born node, the cell is at home
+  pub at-rest-home : IsStored seen t c → (IsUnborn c → ⊥) → is_waiting c.mark.state ≡ false
+      → AtHome seen t c
+  at-rest-home h born rest = by c.mark.state h born rest
     where
       by : (s : NodeStatus) → StoredAs seen t s c → s ≢ node.Unborn → is_waiting s ≡ false
           → AtHome seen t c
@@ -20,9 +23,9 @@ module _ {P : Type 0} (seen : P → BoxPicture) (t : Identity) (c : NodeCell P) 
       by (node.AtWork k) h born rest = absurd (let z : true ≡ false = rest in cc)
       by node.Unborn h born rest = absurd (born refl)
 
-  -- between two visits the law of the cell holds
-  pub stored-cell : IsBetweenVisits seen t c → CellHolds seen t c
-  stored-cell h = by c.mark.state h.born h.stored
+  -- between two visits the law of a born node's cell holds
+  pub stored-cell : IsStored seen t c → (IsUnborn c → ⊥) → CellHolds seen t c
+  stored-cell h born = by c.mark.state born h
     where
       by : (k : NodeStatus) → k ≢ node.Unborn → StoredAs seen t k c → CellHolds seen t c
       by node.Unborn born h = absurd (born refl)
@@ -30,25 +33,40 @@ module _ {P : Type 0} (seen : P → BoxPicture) (t : Identity) (c : NodeCell P) 
       by node.Resting born h = h.cell
       by (node.AtWork call.Work) born h = absurd h
       by (node.AtWork call.Schedule) born h = h.0.cell
-      by (node.AtWork call.Expand) born h = absurd h
+      by (node.AtWork call.Expand) born h = h.0.cell
       by node.Over born h = h.cell
 
-  -- a visit that stops nothing leaves it so
-  pub visited-between : (y : NodeCell P) → IsBetweenVisits seen t c → Stays seen None c y
-      → IsStored seen t y → IsBetweenVisits seen t y
-  visited-between y h s k = record {
-    stored = k;
-    born = λ unborn.
-        let kept : AwaitsBirth seen t y = subst (λ z. StoredAs seen t z y) unborn k in
-        not-blank (seen y.processor).spec
-        (rw s.box.same.spec (stored-cell h).node.box.running.loaded) kept.blank;
-  }
+  -- a node is unborn exactly where its box is blank
+  pub is-loaded : IsStored seen t c → (IsUnborn c → ⊥) → IsBorn (seen c.processor)
+  is-loaded h born = (stored-cell h born).node.box.running.loaded
+
+  pub blank-unborn : IsStored seen t c → (seen c.processor).spec ≡ None → IsUnborn c
+  blank-unborn h none = by c.mark.state refl
+    where
+      loaded : (IsUnborn c → ⊥) → IsUnborn c
+      loaded born = absurd (not-blank (seen c.processor).spec (is-loaded h born) none)
+
+      by : (k : NodeStatus) → c.mark.state ≡ k → IsUnborn c
+      by node.Unborn e = e
+      by node.Due e = loaded (λ u. let z : node.Due ≡ node.Unborn = rw e at u in cc)
+      by node.Resting e = loaded (λ u. let z : node.Resting ≡ node.Unborn = rw e at u in cc)
+      by (node.AtWork k) e = loaded (λ u. let z : node.AtWork k ≡ node.Unborn = rw e at u in cc)
+      by node.Over e = loaded (λ u. let z : node.Over ≡ node.Unborn = rw e at u in cc)
+
+  pub unborn-blank : IsStored seen t c → IsUnborn c → (seen c.processor).spec ≡ None
+  unborn-blank h unborn =
+      let kept : AwaitsBirth seen t c = subst (λ z. StoredAs seen t z c) unborn h in kept.blank
 
   -- a node that isn't due a visit stays
-  pub stays-unvisited : Stays seen None c c
-  stays-unvisited = keeps-stays seen c c record {
-    processor = refl;
-    ports = record { inputs = refl; outputs = refl; sources = refl; targets = refl; number = refl };
+  pub stays-unvisited : IsStored seen t c → LeavesCell seen t None c c
+  stays-unvisited h = record {
+    stays = keeps-stays seen c c record {
+      processor = refl;
+      ports = same-ports _;
+      reserve = refl;
+    };
+    blank = λ _. refl;
+    lies = h;
   }
 
 -- nothing more is due of the node

@@ -1,8 +1,9 @@
 -- The cells of all nodes of a table, in order of their numbers.
-use Rattle.node_ends.specs.Prelude.{AreEdgesOf, AreSettled, Board, BoxPicture, CellPicture, EachSeat, EndRoom, HoldsGraph, Identity, IsBack, IsStored, NodeBody, NodeCell, NodeSeat, SurveyRoom, WholeCell, Wire, cell_ports, is_waiting, turn_picture, view, whole_at}
+use Rattle.node_ends.specs.Prelude.{AreSettled, Board, BoxPicture, CellPicture, EachSeat, EndRoom, HasEdge, HasPlaces, HoldsGraph, Identity, IsBack, IsStored, NodeBody, NodeCell, NodeSeat, SurveyRoom, WholeCell, Wire, cell_ports, is_waiting, turn_picture, view, whole_at}
 use Rattle.exec_laws.specs.declared.edges.NodeStatus.TheVariants as node
+use Rattle.port_word.specs.declared.flags.Port.{Port}
 use Rattle.task_queue.specs.Queues.{IsPassOf}
-use Rattle.std.specs.Prelude.{List, Vec, [], false, length, map, vec_capacity, ℕ, ◌≡◌, ◌≢◌, ◌≤◌}
+use Rattle.std.specs.Prelude.{List, Vec, [], false, length, map, slice_index_or, vec_capacity, ℕ, ◌≡◌, ◌≢◌, ◌≤◌}
 use Rattle.std.specs.declared.alloc.Global.{Global}
 use mathlib.Core.Option.{some}
 use lib.ListN.{get_elem?}
@@ -10,7 +11,12 @@ use lib.ListN.{get_elem?}
 -- ---- parts of cells
 
 abbrev pub body_of : {P : Type 0} → NodeCell P → NodeBody P
-body_of c = record { processor = c.processor; mark = c.mark; ports = c.ports }
+body_of c = record {
+  processor = c.processor;
+  mark = c.mark;
+  ports = c.ports;
+  reserve = c.reserve;
+}
 
 abbrev pub bodies_of : {P : Type 0} → List (NodeCell P) → List (NodeBody P)
 bodies_of cells = map body_of cells
@@ -22,36 +28,68 @@ seats_of {P} cells = map (λ (c : NodeCell P). c.seat) cells
 abbrev pub boxes_in : {P : Type 0} → (P → BoxPicture) → List (NodeCell P) → List BoxPicture
 boxes_in {P} seen cells = map (λ (c : NodeCell P). seen c.processor) cells
 
-abbrev pub whole_of : {P : Type 0} → (P → BoxPicture) → NodeCell P → WholeCell
-whole_of seen c = record { box = seen c.processor; mark = c.mark; ports = cell_ports c }
+-- The graph that the cells of a table run: its wires, the numbers that these have in the table, and
+-- for each node the places of the wires at its inputs and outputs.
+pub record CellGraph : Type 0 where
+  pub wires : List Wire
+  pub table_edge : ℕ → ℕ
+  pub inputs : ℕ → List ℕ
+  pub outputs : ℕ → List ℕ
 
-abbrev pub wholes_of : {P : Type 0} → (P → BoxPicture) → List (NodeCell P) → List WholeCell
-wholes_of seen cells = map (whole_of seen) cells
+-- a graph whose wires have their places as numbers in the table, with the edges of these cells
+abbrev pub own_graph : {P : Type 0} → List Wire → List (NodeCell P) → CellGraph
+own_graph {P} wires cells = record {
+  wires = wires;
+  table_edge = λ e. e;
+  inputs = λ n. slice_index_or (map (λ (c : NodeCell P). c.ports.inputs.items) cells) n [];
+  outputs = λ n. slice_index_or (map (λ (c : NodeCell P). c.ports.outputs.items) cells) n [];
+}
+
+abbrev pub whole_of : {P : Type 0} → (P → BoxPicture) → CellGraph → NodeCell P → WholeCell
+whole_of seen g c = record {
+  box = seen c.processor;
+  mark = c.mark;
+  ports = cell_ports c;
+  inputs = g.inputs (view c.seat).number;
+  outputs = g.outputs (view c.seat).number;
+}
+
+abbrev pub wholes_of : {P : Type 0} → (P → BoxPicture) → CellGraph → List (NodeCell P)
+    → List WholeCell
+wholes_of seen g cells = map (whole_of seen g) cells
 
 abbrev pub pictures_of : {P : Type 0} → (P → BoxPicture) → List (NodeCell P) → List CellPicture
 pictures_of seen cells = map (turn_picture seen) cells
 
 -- ---- cells between two visits
 
--- the cell of a born node
-pub record IsBetweenVisits {P : Type 0} (seen : P → BoxPicture) (t : Identity)
+abbrev pub IsUnborn : {P : Type 0} → NodeCell P → Type 0
+IsUnborn c = c.mark.state ≡ node.Unborn
+
+-- the cell of the node n, which has all its edges in the graph once it is born
+pub record IsCellOf {P : Type 0} (seen : P → BoxPicture) (t : Identity) (g : CellGraph) (n : ℕ)
     (c : NodeCell P) : Type 0 where
   pub stored : IsStored seen t c
-  pub born : c.mark.state ≢ node.Unborn
-
--- the cell of the node n, which has all its edges
-pub record IsCellOf {P : Type 0} (seen : P → BoxPicture) (t : Identity) (n : ℕ)
-    (c : NodeCell P) : Type 0 where
-  pub between : IsBetweenVisits seen t c
   pub number : (view c.seat).number ≡ n
-  pub edges : AreEdgesOf t.sizes.wires n c.ports.inputs.items c.ports.outputs.items
+  pub places : (IsUnborn c → ⊥)
+      → HasPlaces g.wires g.table_edge n (g.inputs n) (g.outputs n) (cell_ports c)
 
--- the cells of all nodes of a graph that doesn't grow
-pub record AreCells {P : Type 0} (seen : P → BoxPicture) (t : Identity)
+-- the cells of all nodes of the graph, which joins born ones alone
+pub record AreCells {P : Type 0} (seen : P → BoxPicture) (t : Identity) (g : CellGraph)
     (cells : List (NodeCell P)) : Type 0 where
   pub count : length cells ≡ t.sizes.nodes
-  pub graph : HoldsGraph (length cells) t.sizes.wires
-  pub each : (n : ℕ) (c : NodeCell P) → get_elem? cells n ≡ some c → IsCellOf seen t n c
+  pub graph : HoldsGraph (length cells) g.wires
+  pub each : (n : ℕ) (c : NodeCell P) → get_elem? cells n ≡ some c → IsCellOf seen t g n c
+  pub joined : (e n : ℕ) (p : Port) (c : NodeCell P) → HasEdge g.wires n p e
+      → get_elem? cells n ≡ some c → IsUnborn c → ⊥
+
+-- those of a graph that didn't grow: its wires are the table's first ones
+abbrev pub AreOwnCells : {P : Type 0} → (P → BoxPicture) → Identity → List (NodeCell P) → Type 0
+AreOwnCells seen t cells = AreCells seen t (own_graph t.sizes.wires cells) cells
+
+-- the cells of all nodes of some graph
+abbrev pub AreCellsOfGraph : {P : Type 0} → (P → BoxPicture) → Identity → List (NodeCell P) → Type 0
+AreCellsOfGraph seen t cells = (g : CellGraph) × AreCells seen t g cells
 
 -- no node is due or at work
 abbrev pub AreAtRest : {P : Type 0} → List (NodeCell P) → Type 0
@@ -93,6 +131,6 @@ pub record IsEndRoomFor {P : Type 0} (t : Identity) (count : ℕ) (r : EndRoom P
 -- ---- where nothing is pending
 
 -- a state of the table in which nothing is pending has what the cells, which are at home, know
-pub record IsSettled (wires : List Wire) (cells : List WholeCell) : Type 0 where
+pub record IsSettled (g : CellGraph) (cells : List WholeCell) : Type 0 where
   pub board : Board
-  pub settled : AreSettled (length cells) wires board (whole_at cells)
+  pub settled : AreSettled (length cells) g.wires g.table_edge board (whole_at cells)

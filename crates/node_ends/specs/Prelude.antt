@@ -4,10 +4,10 @@ pub use Rattle.exec_table.specs.Boards.{Board}
 pub use Rattle.exec_table.specs.Seats.{Identity, view}
 pub use Rattle.exec_table.specs.Surveys.{EachSeat, IsBack}
 pub use Rattle.exec_table.specs.declared.rule.NodeSeat.{NodeSeat}
-pub use Rattle.exec_laws.specs.Names.{AreEdgesOf, CellPicture, HoldsGraph, IsDone, IsStuck, is_waiting}
+pub use Rattle.exec_laws.specs.Names.{CellPicture, HasEdge, HoldsGraph, IsDone, IsStuck, is_waiting}
 pub use Rattle.exec_laws.specs.Prelude.{BoxPicture}
 pub use Rattle.node_cells.specs.Cells.{cell_ports}
-pub use Rattle.node_cells.specs.Ends.{AreSettled, WholeCell, whole_at}
+pub use Rattle.node_cells.specs.Ends.{AreSettled, HasPlaces, WholeCell, whole_at}
 pub use Rattle.node_cells.specs.Stored.{IsStored}
 pub use Rattle.node_cells.specs.Turns.{turn_picture}
 pub use Rattle.node_cells.specs.declared.cell.NodeCell.{NodeCell}

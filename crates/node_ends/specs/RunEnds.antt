@@ -1,37 +1,59 @@
 -- What each end of a run says of the boxes.
-use Rattle.exec_laws.specs.Names.{GivenBack}
-use Rattle.node_cells.specs.Stops.{GrowthStays, StopHolds}
+use Rattle.exec_laws.specs.Names.{IsBorn, KeepsFault, StaysBox}
+use Rattle.node_cells.specs.Stops.{GrowthStays}
 use Rattle.node_cells.specs.declared.stop_cause.StopCause.{StopCause}
-use Rattle.node_ends.specs.CellLists.{AreCells, boxes_in}
+use Rattle.node_cells.specs.declared.stop_cause.StopCause.TheVariants as cause
+use Rattle.node_ends.specs.CellLists.{AreCells, CellGraph, boxes_in}
 use Rattle.node_ends.specs.Prelude.{BoxPicture, Identity, IsDone, IsStuck, NodeCell, NodesEnd, Wire, box_at}
 use Rattle.node_ends.specs.declared.node_ends.NodesEnd.TheVariants as end
-use Rattle.std.specs.Prelude.{List, None, Some, length, ℕ, ◌<◌, ◌≡◌}
+use Rattle.std.specs.Prelude.{List, None, Some, length, ℕ, ⊤, ◌<◌, ◌≡◌}
+
+-- what visits at the end leave of a box: a blank one is left alone
+pub record BoxStays (p q : BoxPicture) : Type 0 where
+  pub born : IsBorn p → StaysBox p q
+  pub blank : p.spec ≡ None → q ≡ p
+
+pub record BoxesStay (before after : List BoxPicture) : Type 0 where
+  pub count : length after ≡ length before
+  pub each : (n : ℕ) → n < length before → BoxStays (box_at before n) (box_at after n)
 
 -- what calls that stop nothing leave of the growths that the boxes keep
 abbrev pub GrowthsStay : (before after : List BoxPicture) → Type 0
 GrowthsStay before after =
     (n : ℕ) → n < length before → GrowthStays None (box_at before n) (box_at after n)
 
+-- what the box keeps of the node at which the run is stopped, by which nothing grows any more
+abbrev pub KeepsCause : StopCause → BoxPicture → Type 0
+KeepsCause (cause.Fault f) p = KeepsFault f p
+KeepsCause (cause.Flaw f) p = ⊥
+KeepsCause cause.Memory p = ⊤
+
 -- the run is stopped at a node
 pub record StopsAt (n : ℕ) (s : StopCause) (before after : List BoxPicture) : Type 0 where
   pub in_range : n < length after
-  pub stop : StopHolds s (box_at after n)
+  pub stop : KeepsCause s (box_at after n)
   pub growth : GrowthStays (Some s) (box_at before n) (box_at after n)
 
 module _ {P : Type 0} (seen : P → BoxPicture) where
-  -- visits that stopped nothing left these cells of all nodes: the boxes are given back, and keep
-  -- their growths
+  -- visits that stopped nothing left the cells of all nodes of the same graph: the boxes stay, and
+  -- keep their growths
   pub record AreVisited (t : Identity) (old new : List (NodeCell P)) : Type 0 where
-    pub cells : AreCells seen t new
+    pub cells : (g : CellGraph) → AreCells seen t g old → AreCells seen t g new
     pub count : length new ≡ length old
-    pub back : GivenBack (boxes_in seen old) (boxes_in seen new)
+    pub back : BoxesStay (boxes_in seen old) (boxes_in seen new)
     pub growth : GrowthsStay (boxes_in seen old) (boxes_in seen new)
 
-  -- the run is stopped at a node, and the boxes are given back
+  -- the run is stopped at a node, and the boxes stay
   pub record AreStoppedAt (n : ℕ) (s : StopCause) (old new : List (NodeCell P)) : Type 0 where
     pub count : length new ≡ length old
-    pub back : GivenBack (boxes_in seen old) (boxes_in seen new)
+    pub back : BoxesStay (boxes_in seen old) (boxes_in seen new)
     pub stop : StopsAt n s (boxes_in seen old) (boxes_in seen new)
+
+-- the run was stopped at no node
+abbrev pub IsSettledEnd : NodesEnd → Type 0
+IsSettledEnd end.Done = ⊤
+IsSettledEnd (end.Stuck report n) = ⊤
+IsSettledEnd (end.Stopped n s) = ⊥
 
 -- the end of a run in which nothing is pending
 abbrev pub SettledEndHolds : NodesEnd → List Wire → List BoxPicture → Type 0

@@ -7,7 +7,7 @@ ghost use Rattle.node_ends.specs.CellLists.{AreSurveyed, HaveRoomFor, IsEmptied,
 use chunk_data::Memory;
 use exec_laws::NodeMark;
 use exec_table::{ExecTable, NodeSeat};
-use node_cells::NodeCell;
+use node_cells::{NodeCell, NodeReserve};
 use node_ports::NodePorts;
 use std::alloc::Global;
 
@@ -17,6 +17,7 @@ pub struct NodeBody<P> {
     pub processor: P,
     pub mark: NodeMark,
     pub ports: NodePorts,
+    pub reserve: NodeReserve,
 }
 
 /// Room in which cells are taken apart, and the words of the last survey.
@@ -73,11 +74,13 @@ fn take_apart<P: Drop>(
             mark,
             ports,
             seat,
+            reserve,
         } = cells.remove(0);
         bodies.push_reserved(NodeBody {
             processor,
             mark,
             ports,
+            reserve,
         });
         seats.push_reserved(seat);
     }
@@ -103,6 +106,7 @@ fn put_together<P: Drop>(
             processor,
             mark,
             ports,
+            reserve,
         } = bodies.remove(0);
         let seat = seats.remove(0);
         cells.push_reserved(NodeCell {
@@ -110,6 +114,7 @@ fn put_together<P: Drop>(
             mark,
             ports,
             seat,
+            reserve,
         });
     }
 }

@@ -1,5 +1,5 @@
-//! The end of a run of a graph that doesn't grow, after its workers: one caller has the table and
-//! the cells of all nodes.
+//! The end of a run of a graph, after its workers: one caller has the table and the cells of all
+//! nodes.
 //!
 //! As the last worker it takes up each node that the run left due, until a survey of the table
 //! finds nothing pending. The run is then done where the view of each node at rest supports its
@@ -9,7 +9,8 @@
 //! - `cells_survey.rt`: a survey of the table with the seats of all cells
 //! - `node_ends.rt`: the run goes on to its end
 //! - `resting.rt`: whether the views of nodes at rest support their last status
-//! - `specs/CellLists.antt`: the cells of all nodes; `specs/RunEnds.antt`: what each end says
+//! - `specs/CellLists.antt`: the cells of all nodes, and the graph that they run;
+//!   `specs/RunEnds.antt`: what each end says
 #![tactic(auto)]
 
 mod cells_survey;
@@ -19,3 +20,4 @@ mod resting;
 pub use cells_survey::{NodeBody, SurveyRoom};
 pub use node_cells::StopCause;
 pub use node_ends::{EndRoom, NodesEnd, end_nodes, new_end_room};
+pub use resting::rests;

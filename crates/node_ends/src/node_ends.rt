@@ -1,11 +1,12 @@
 //! The run goes on to its end.
 ghost use Rattle.std.specs.Prelude.{◌≡◌, ◌<◌, ◌≤◌, [], IfErr, IfOk, OnOk, length, slice_index_or, vec_capacity, false, true};
-ghost use Rattle.exec_laws.specs.Names.{GivenBack, is_waiting};
-ghost use Rattle.exec_table.specs.Seats.{identity_of, sizes_in};
-ghost use Rattle.node_cells.specs.Stops.{StopHolds, stop_of};
-ghost use Rattle.node_cells.specs.Turns.{Stays};
-ghost use Rattle.node_ends.specs.CellLists.{AreAtRest, AreCells, IsBetweenVisits, IsEndRoomFor, IsSettled, IsSurveyRoom, boxes_in, wholes_of};
-ghost use Rattle.node_ends.specs.RunEnds.{AreStoppedAt, AreVisited, NodesEndHolds, SettledEndHolds};
+ghost use Rattle.exec_laws.specs.Names.{is_waiting};
+ghost use Rattle.exec_table.specs.Seats.{identity_of};
+ghost use Rattle.std.specs.Result.{result_err};
+ghost use Rattle.node_cells.specs.Stored.{IsStored};
+ghost use Rattle.node_cells.specs.Visits.{LeavesCell};
+ghost use Rattle.node_ends.specs.CellLists.{AreAtRest, AreCells, AreCellsOfGraph, CellGraph, IsEndRoomFor, IsSettled, IsSurveyRoom, boxes_in, wholes_of};
+ghost use Rattle.node_ends.specs.RunEnds.{AreStoppedAt, AreVisited, BoxesStay, IsSettledEnd, KeepsCause, NodesEndHolds, SettledEndHolds};
 ghost use Rattle.task_queue.specs.Queues.{IsPassOf};
 
 use crate::cells_survey::{SurveyRoom, new_survey_room, survey_cells};
@@ -14,13 +15,13 @@ use chunk_data::{List, Memory};
 use crossbeam_utils::Backoff;
 use exec_laws::{NodeStatus, StuckNode};
 use exec_table::ExecTable;
-use node_cells::{NodeCell, StopCause, visit_node};
+use node_cells::{NodeCell, RunEnd, StopCause, visit_node};
 use proc_api::Processor;
 use std::alloc::Global;
 use std::sync::Wait;
 use task_queue::{TaskQueue, WorkerTasks};
 
-/// How the run of a graph that doesn't grow ended.
+/// How the run of a graph ended.
 #[derive(Drop)]
 pub enum NodesEnd {
     /// All nodes are over, and the chunks pulled at each edge are those pushed, but for what a
@@ -67,13 +68,13 @@ fn is_nothing_pending(words: &[u64]) -> bool
     words.len() == 0 || words[0] == 0
 }
 
-/// Whether the node rests or is over.
+/// Whether the node rests, is over or isn't born.
 fn is_at_rest(state: NodeStatus) -> bool
     ensures { result ≡ true → is_waiting state ≡ false }
 {
     match state {
-        NodeStatus::Resting | NodeStatus::Over => true,
-        NodeStatus::Due | NodeStatus::AtWork(_) | NodeStatus::Unborn => false,
+        NodeStatus::Resting | NodeStatus::Over | NodeStatus::Unborn => true,
+        NodeStatus::Due | NodeStatus::AtWork(_) => false,
     }
 }
 
@@ -112,7 +113,8 @@ fn is_due(state: NodeStatus, is_charged: bool) -> bool {
     }
 }
 
-/// Takes up the node of a cell, if the run left it due.
+/// Takes up the node of a cell, if the run left it due. Workers grow a graph before they end:
+/// nothing does so now.
 fn visit<P: Processor, R: Wait>(
     rt: &R,
     table: &ExecTable,
@@ -122,18 +124,19 @@ fn visit<P: Processor, R: Wait>(
     is_charged: bool,
 ) -> Result<(), StopCause>
     requires pass { IsPassOf queue.now tasks.old.pass }
-    requires cell { IsBetweenVisits P.seen (identity_of table.now) cell.old }
+    requires cell { IsStored P.seen (identity_of table.now) cell.old }
     ensures pass { IsPassOf queue.now tasks.new.pass }
-    ensures stays { Stays P.seen (stop_of result) cell.old cell.new }
-    ensures ok { OnOk result (IsBetweenVisits P.seen (identity_of table.now) cell.new) }
-    ensures stop { IfErr result (λ s. StopHolds s (P.seen cell.new.processor)) }
+    ensures leaves { LeavesCell P.seen (identity_of table.now) (result_err result)
+        cell.old cell.new }
+    ensures stop { IfErr result (λ s. KeepsCause s (P.seen cell.new.processor)) }
 {
     if !is_due(cell.mark.state, is_charged) {
         return Ok(());
     }
     match visit_node(rt, table, queue, tasks, cell) {
-        Ok(_) => Ok(()),
-        Err(stop) => Err(stop),
+        Ok(RunEnd::Grows) => Err(StopCause::Memory),
+        Ok(RunEnd::Rests | RunEnd::Waits) => Ok(()),
+        Err(fault) => Err(StopCause::Fault(fault)),
     }
 }
 
@@ -149,7 +152,7 @@ fn visit_at<P: Processor, R: Wait>(
 ) -> Result<(), StopCause>
     requires pass { IsPassOf queue.now tasks.old.pass }
     requires in_range { n < length cells.old.items }
-    requires cells { AreCells P.seen (identity_of table.now) cells.old.items }
+    requires cells { AreCellsOfGraph P.seen (identity_of table.now) cells.old.items }
     ensures pass { IsPassOf queue.now tasks.new.pass }
     ensures ok { OnOk result
         (AreVisited P.seen (identity_of table.now) cells.old.items cells.new.items) }
@@ -168,7 +171,7 @@ fn visit_all<P: Processor, R: Wait>(
     words: &[u64],
 ) -> Result<(), (usize, StopCause)>
     requires pass { IsPassOf queue.now tasks.old.pass }
-    requires cells { AreCells P.seen (identity_of table.now) cells.old.items }
+    requires cells { AreCellsOfGraph P.seen (identity_of table.now) cells.old.items }
     ensures pass { IsPassOf queue.now tasks.new.pass }
     ensures ok { OnOk result
         (AreVisited P.seen (identity_of table.now) cells.old.items cells.new.items) }
@@ -195,11 +198,11 @@ fn settle<P: Processor, R: Wait>(
     room: &mut SurveyRoom<P>,
 ) -> Result<(), (usize, StopCause)>
     requires pass { IsPassOf queue.now tasks.old.pass }
-    requires cells { AreCells P.seen (identity_of table.now) cells.old.items }
-    requires some { 0 < length cells.old.items }
+    requires cells { AreCellsOfGraph P.seen (identity_of table.now) cells.old.items }
     requires room { IsSurveyRoom (identity_of table.now) (length cells.old.items) room.old }
-    ensures settled { OnOk result
-        (IsSettled (sizes_in table.now).wires (wholes_of P.seen cells.new.items)) }
+    ensures settled { OnOk result ((g : CellGraph)
+        → AreCells P.seen (identity_of table.now) g cells.old.items
+        → IsSettled g (wholes_of P.seen g cells.new.items)) }
     ensures visited { OnOk result
         (AreVisited P.seen (identity_of table.now) cells.old.items cells.new.items) }
     ensures stop { IfErr result
@@ -221,16 +224,13 @@ fn settle<P: Processor, R: Wait>(
 }
 
 /// The end of a run in which nothing is pending.
-fn settled_end<P: Processor>(
-    _table: &ExecTable,
-    cells: &Vec<NodeCell<P>>,
-    report: Vec<StuckNode>,
-) -> NodesEnd
-    requires settled { IsSettled (sizes_in _table.now).wires (wholes_of P.seen cells.now.items) }
+fn settled_end<P: Processor>(cells: &Vec<NodeCell<P>>, report: Vec<StuckNode>) -> NodesEnd
+    requires settled { (g : CellGraph) × IsSettled g (wholes_of P.seen g cells.now.items) }
     requires few { length cells.now.items ≤ 256 }
     requires empty { report.items ≡ [] }
     requires room { length cells.now.items ≤ vec_capacity report }
-    ensures { SettledEndHolds result (sizes_in _table.now).wires (boxes_in P.seen cells.now.items) }
+    ensures { (g : CellGraph) → IsSettled g (wholes_of P.seen g cells.now.items)
+        → SettledEndHolds result g.wires (boxes_in P.seen cells.now.items) }
 {
     let mut report = report;
     match first_unlawful(cells) {
@@ -242,23 +242,24 @@ fn settled_end<P: Processor>(
     }
 }
 
-/// Ends the run of a graph that doesn't grow, after its workers. The room was made before, so that
-/// no end wants memory.
+/// Ends the run of a graph, after its workers. The room was made before, so that no end wants
+/// memory.
 pub fn end_nodes<P: Processor, R: Wait>(
     rt: &R,
     table: &ExecTable,
     cells: &mut Vec<NodeCell<P>>,
     room: EndRoom<P>,
 ) -> NodesEnd
-    requires cells { AreCells P.seen (identity_of table.now) cells.old.items }
+    requires cells { AreCellsOfGraph P.seen (identity_of table.now) cells.old.items }
     requires room { IsEndRoomFor (identity_of table.now) (length cells.old.items) room }
-    ensures back { GivenBack (boxes_in P.seen cells.old.items) (boxes_in P.seen cells.new.items) }
-    ensures end { NodesEndHolds result (sizes_in table.now).wires (boxes_in P.seen cells.old.items)
+    ensures back { BoxesStay (boxes_in P.seen cells.old.items) (boxes_in P.seen cells.new.items) }
+    ensures end { (g : CellGraph) → AreCells P.seen (identity_of table.now) g cells.old.items
+        → NodesEndHolds result g.wires (boxes_in P.seen cells.old.items)
         (boxes_in P.seen cells.new.items) }
+    ensures quiet { IsSettledEnd result → (g : CellGraph)
+        → AreCells P.seen (identity_of table.now) g cells.old.items
+        → IsSettled g (wholes_of P.seen g cells.new.items) }
 {
-    if cells.len() == 0 {
-        return NodesEnd::Done;
-    }
     let EndRoom {
         mut survey,
         report,
@@ -266,7 +267,7 @@ pub fn end_nodes<P: Processor, R: Wait>(
         mut tasks,
     } = room;
     match settle(rt, table, &queue, &mut tasks, cells, &mut survey) {
-        Ok(()) => settled_end(table, cells, report),
+        Ok(()) => settled_end(cells, report),
         Err((n, stop)) => NodesEnd::Stopped(n as u32, stop),
     }
 }

@@ -48,8 +48,8 @@ fn supports_status<P: Processor>(cell: &NodeCell<P>) -> bool
     }
 }
 
-/// Whether the view supports the last status.
-fn rests(last: Option<Status>, view: &PortView) -> bool
+/// Whether the view of a node at rest supports its last status.
+pub fn rests(last: Option<Status>, view: &PortView) -> bool
     ensures yes { result ≡ true → Rests last view.now }
     ensures denied { result ≡ false → Rests last view.now → ⊥ }
 {

@@ -1,5 +1,5 @@
 -- A step of the table carries an action out.
-use Rattle.node_ports.proofs.Imports.{Acted, Action, Bool, Chunk, Close, EdgeEnd, Finish, Flags, Input, Identity, InputPort, ShowsInFlags, IsPort, IsSeatOf, List, MakesStep, MayAct, NodePorts, NodeSeat, NodeView, None, Option, Output, Picture, Port, PortKnown, PortsPicture, Pull, Push, SeatState, Some, Table, Unwant, Want, [], action_port, and_from, ap, append-nil, append_assoc, arith, chunk_after, chunk_step, cond, edge_of, end_of_view, eq-eqb, false, flags_at, get_or, get_or-set_other, get_or-set_same, has, holds_data, in_count, input_at, input_step, is_end, is_own_port, is_some, knows, length, length-set, lifted_of, ne_eqb, not, nothing, out_count, output_at, output_step, ports_picture, push-away, pushes_to, ready, refl, seat_after, seeing-here, set, shown, slot_in, state-made, step_of, subst, sym, taken_out, true, untaken, view, ℕ, ◌++◌, ◌<◌, ◌∙◌, ◌∷◌, ◌≡◌, ◌≢◌}
+use Rattle.node_ports.proofs.Imports.{Acted, Action, Bool, Chunk, Close, EdgeEnd, Finish, Flags, Input, Identity, InputPort, ShowsInFlags, IsPort, IsSeatOf, List, MakesStep, MayAct, NodePorts, NodeSeat, NodeView, None, Option, Output, Picture, Port, PortKnown, PortsPicture, Pull, Push, SeatState, Some, Table, Unwant, Want, [], action_port, and_from, ap, append-nil, append_assoc, arith, chunk_after, chunk_step, cond, edge_of, end_of_view, eq-eqb, false, flags_at, get_or, get_or-set_other, get_or-set_same, has, holds_data, in_count, input_at, input_step, is_end, is_own_port, is_some, knows, length, length-set, lifted_of, ne_eqb, not, nothing, out_count, output_at, output_step, ports_picture, push-away, pushes_to, ready, refl, seat_after, seeing-here, set, shown, slot_in, state-made, step_of, subst, sym, taken_out, true, untaken, view, ℕ, ◌++◌, ◌<◌, ◌∙◌, ◌∷◌, ◌≡◌, ◌≢◌, cases_eq, inl, inr}
 use Rattle.node_ports.proofs.Shown.{Differs, Here, IsPortReady, MovesAt, SameEdge, Waits, differs-at, end-side, is_input, lifted_at, moved-holds, moved-lists, passed-at, shown-at, shown-input, sight, still-updated, waiting}
 use Rattle.node_ports.specs.Peers.{is_to_tell}
 use Rattle.exec_table.proofs.Hands.{may_learn}
@@ -373,6 +373,12 @@ module _ {t : Identity} (old new : NodeSeat) (ports : NodePorts) (s : IsSeatOf t
     same-there e ne = let was = same-made s m e (step-elsewhere a e (at a) k ne) in
         record { flags = was.flags; end = was.end; slot = was.slot }
 
+    same-wires : (e : ℕ) → (end_of_view d.node e).wire ≡ (end_of_view start.node e).wire
+    same-wires e = elim (cases_eq e (at a)) [
+      | inl q ↦ rw q here.wire
+      | inr ne ↦ ap (λ (z : EdgeEnd). z.wire) (same-there e ne).end
+    ]
+
     moves : MovesAt (untaken a start) d (Some p)
     unfolding in_count out_count
     moves = record {
@@ -382,6 +388,7 @@ module _ {t : Identity} (old new : NodeSeat) (ports : NodePorts) (s : IsSeatOf t
         sources = refl;
         targets = refl;
         number = number-made s m;
+        wires = same-wires;
       };
       edges = edges-made s m (step-plain a (at a) k);
       unlooked = still-updated (untaken a start) h.holds d.node.state.unlooked
@@ -411,6 +418,7 @@ module _ {t : Identity} (old new : NodeSeat) (ports : NodePorts) (s : IsSeatOf t
         sources = refl;
         targets = refl;
         number = moves.ports.number;
+        wires = same-wires;
       };
       view = refl;
       stage = stage-made s m ∙ step-stage a (view old) (at a) k;

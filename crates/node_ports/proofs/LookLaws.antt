@@ -1,5 +1,5 @@
 -- A node looks at one of its ports.
-use Rattle.node_ports.proofs.Imports.{StepAnswer, Bool, BoxPicture, Chunk, Flags, FollowsKept, Identity, Input, InputPort, IsEnd, IsSeatOf, IsSound, MakesStep, MaySee, NodePorts, NodeSeat, NodeView, None, Option, Output, Picture, Port, PortKnown, PortsHold, PortsPicture, SeatState, Sees, Some, Table, Wire, [], after_see, and_parts, ap, arith, cases_Bool, edge_of, edges_of, end_of, end_of_view, eq-eqb, false, flags, flags_at, has, has-filter, holds-in, holds_chunk, holds_data, in_count, inl, input_at, inr, is_chunk_due, is_end, is_own_port, is_some, knows, known-wire, lifted_of, ne_eqb, no_flags, node_at, not, out_count, port_at, port_chunk, port_flags, ports_picture, pushes_to, refl, seat_after, seeing-here, seen_chunk, shown, slot_of, slots, state-made, subst, sym, true, view, ℕ, ◌&&◌, ◌<◌, ◌==◌, ◌∙◌, ◌≡◌, ◌≢◌, ◌⊎◌}
+use Rattle.node_ports.proofs.Imports.{StepAnswer, Bool, BoxPicture, Chunk, Flags, FollowsKept, Identity, Input, InputPort, IsEnd, IsSeatOf, IsSound, MakesStep, MaySee, NodePorts, NodeSeat, NodeView, None, Option, Output, Picture, Port, PortKnown, PortsHold, PortsPicture, SeatState, Sees, Some, Table, Wire, [], after_see, and_parts, ap, arith, cases_Bool, edge_of, edges_of, end_of, end_of_view, eq-eqb, false, flags, flags_at, has, has-filter, holds-in, holds_chunk, holds_data, in_count, inl, input_at, inr, is_chunk_due, is_end, is_own_port, is_some, knows, known-wire, lifted_of, ne_eqb, no_flags, node_at, not, out_count, port_at, port_chunk, port_flags, ports_picture, pushes_to, refl, seat_after, seeing-here, seen_chunk, shown, slot_of, slots, state-made, subst, sym, true, view, ℕ, ◌&&◌, ◌<◌, ◌==◌, ◌∙◌, ◌≡◌, ◌≢◌, ◌⊎◌, cases_eq, EdgeEnd}
 use Rattle.node_ports.proofs.Shown.{Here, IsPortReady, MovesAt, SameEdge, Waits, differs-quiet, end-there, is_input, lifted_at, moved-holds, moved-lists, quiet-passed, quiet-seen, quiet-sight, seen_at, shown-at, sight, still-updated}
 use Rattle.node_ports.specs.Sights.{Lifts, LookedAt, MayLook, has_chunk, is_lift_due}
 use Rattle.exec_table.proofs.Ends.{edges-made, look-made, look-slot, number-made, same-made, stage-made}
@@ -389,6 +389,10 @@ module _ {t : Identity} {old mid new : NodeSeat} {f : Flags} {x : Option Table} 
       sources = refl;
       targets = refl;
       number = ap (λ (v : NodeView). v.number) l.same ∙ number-made o m;
+      wires = λ e. elim (cases_eq e at) [
+        | inl q ↦ rw q here.wire
+        | inr ne ↦ ap (λ (z : EdgeEnd). z.wire) (same-there e ne).end
+      ];
     };
     edges = ap (λ (v : NodeView). edges_of v.state.seen) l.same ∙ edges-made o m refl;
     unlooked = still-updated was may.holds (view new).state.unlooked

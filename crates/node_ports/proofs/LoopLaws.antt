@@ -19,6 +19,7 @@ same-ports c = record {
   sources = refl;
   targets = refl;
   number = refl;
+  wires = λ e. refl;
 }
 
 pub ports-both : (a b c : PortsPicture) → SamePorts a b → SamePorts b c → SamePorts a c
@@ -28,6 +29,7 @@ ports-both a b c h k = record {
   sources = k.sources ∙ h.sources;
   targets = k.targets ∙ h.targets;
   number = k.number ∙ h.number;
+  wires = λ e. k.wires e ∙ h.wires e;
 }
 
 pub edge-stays : (c d : PortsPicture) → SamePorts c d → (p : Port) → edge_of d p ≡ edge_of c p
@@ -114,6 +116,7 @@ looked-all c p s u h = record {
           sources = refl;
           targets = refl;
           number = refl;
+          wires = λ e. refl;
         };
         stage = refl;
         fewer = λ e q. q;

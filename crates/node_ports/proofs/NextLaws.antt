@@ -1,5 +1,5 @@
 -- An action is carried out and its peer told.
-use Rattle.node_ports.proofs.Imports.{Identity, Acted, Action, Bool, BoxPicture, FollowsKept, MarkHolds, MayAct, NodePorts, NodeSeat, NodeStatus, Option, Picture, PortsHold, PortsPicture, SamePorts, Some, TakesFirstAction, action_port, ap, edge_of, edges_of, false, has, port_edge, ports_picture, refl, subst, sym, true, untaken, view, ℕ, ◌∙◌, ◌≡◌, ◌≢◌}
+use Rattle.node_ports.proofs.Imports.{Identity, Acted, Action, Bool, BoxPicture, EdgeEnd, FollowsKept, MarkHolds, MayAct, NodePorts, NodeSeat, NodeStatus, Option, Picture, PortsHold, PortsPicture, SamePorts, Some, TakesFirstAction, action_port, ap, edge_of, edges_of, false, has, port_edge, ports_picture, refl, subst, sym, true, untaken, view, ℕ, ◌∙◌, ◌≡◌, ◌≢◌}
 use Rattle.node_ports.proofs.Shown.{still-updated}
 use Rattle.node_ports.proofs.StillLaws.{StaysSeat, still-holds, still-lists}
 use Rattle.node_ports.proofs.LoopLaws.{lists-both, ports-both}
@@ -41,6 +41,7 @@ untaken-ports a c d h = record {
   sources = h.sources;
   targets = h.targets;
   number = h.number;
+  wires = h.wires;
 }
 
 module _ (a : Action) (c d : PortsPicture) (h : Acted a c d false) where
@@ -76,6 +77,7 @@ module _ {t : Identity} {e : ℕ} {b : Bool} (p : NodePorts) {mid new : NodeSeat
           sources = refl;
           targets = refl;
           number = w.number;
+          wires = λ e. ap (λ (z : EdgeEnd). z.wire) (w.same e).end;
         });
     stage = w.stage ∙ h.stage;
     unlooked = w.unlooked ∙ h.unlooked;

@@ -1,5 +1,5 @@
 -- A step of the seat at no port.
-use Rattle.node_ports.proofs.Imports.{Chunk, Identity, Input, IsSeatOf, MakesStep, NodePorts, NodeSeat, None, Option, Output, Picture, Port, PortsHold, PortsPicture, SameLists, SeatState, Some, Step, StepAnswer, Updated, ap, edges_of, false, has, ports_picture, refl, seat_after, shown, state-made, sym, view, ℕ, ◌∙◌, ◌≡◌}
+use Rattle.node_ports.proofs.Imports.{Chunk, EdgeEnd, Identity, Input, IsSeatOf, MakesStep, NodePorts, NodeSeat, None, Option, Output, Picture, Port, PortsHold, PortsPicture, SameLists, SeatState, Some, Step, StepAnswer, Updated, ap, edges_of, false, has, ports_picture, refl, seat_after, shown, state-made, sym, view, ℕ, ◌∙◌, ◌≡◌}
 use Rattle.node_ports.proofs.Shown.{AreUpdated, MovesAt, Waits, differs-at, moved-holds, moved-lists, still-updated}
 use Rattle.exec_table.proofs.Hands.{may_learn}
 use Rattle.exec_table.proofs.Ends.{edges-made, number-made, same-made}
@@ -46,6 +46,7 @@ module _ (p : NodePorts) (u : Updated) (old new : NodeSeat) (h : PortsHold (port
       sources = refl;
       targets = refl;
       number = k.number;
+      wires = λ e. ap (λ (z : EdgeEnd). z.wire) (k.same e).end;
     };
     edges = k.edges;
     unlooked = k.unlooked;

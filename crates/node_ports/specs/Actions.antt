@@ -1,6 +1,6 @@
 -- What is carried out at a port.
 use Rattle.std.specs.Prelude.{Bool, [], cond, true, ℕ, ◌∷◌, ◌≡◌}
-use Rattle.node_ports.specs.Prelude.{Action, Close, Finish, IsSound, NodeView, Pull, Push, Unwant, Want}
+use Rattle.node_ports.specs.Prelude.{Action, Close, Finish, IsSound, NodeView, Pull, Push, Unwant, Want, end_of_view}
 use Rattle.node_ports.specs.Ports.{PortsHold, PortsPicture, edge_of, pulled_by, pushed_by}
 use Rattle.exec_laws.specs.Names.{action_port}
 use Rattle.core_laws.specs.declared.types.Step.{Step}
@@ -39,13 +39,14 @@ pub record SameLists (c d : PortsPicture) : Type 0 where
   pub pulled : (i : ℕ) → pulled_by d i ≡ pulled_by c i
   pub pushed : (o : ℕ) → pushed_by d o ≡ pushed_by c o
 
--- the ports are the same ones, at the same edges
+-- the ports are the same ones, at the same edges, and each edge has the wire that it had
 pub record SamePorts (c d : PortsPicture) : Type 0 where
   pub inputs : d.inputs ≡ c.inputs
   pub outputs : d.outputs ≡ c.outputs
   pub sources : d.sources ≡ c.sources
   pub targets : d.targets ≡ c.targets
   pub number : d.node.number ≡ c.node.number
+  pub wires : (e : ℕ) → (end_of_view d.node e).wire ≡ (end_of_view c.node e).wire
 
 -- the action was carried out at its port; the node owes a telling of it, or doesn't
 pub record Acted (a : Action) (c d : PortsPicture) (owed : Bool) : Type 0 where

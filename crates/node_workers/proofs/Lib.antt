@@ -1,3 +1,4 @@
+pub mod GrowthLaws
 pub mod VisitLaws
 pub mod EndLaws
 pub mod NewCells

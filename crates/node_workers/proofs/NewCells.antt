@@ -24,5 +24,5 @@ new-stored {P} seen boxes wires reserves workers c g new = record {
   stored = λ n x at. (new.each n x at).stored;
   numbers = λ n x at. let y = new.each n x at in
       (seat-as seen (identity_of c.table) x.mark.state x y.stored).number ∙ y.number;
-  edges = λ n x at. (new.each n x at).edges;
+  places = λ n x at. (new.each n x at).places;
 }

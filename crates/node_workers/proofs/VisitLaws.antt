@@ -1,22 +1,22 @@
 -- What a worker's visit leaves of a cell.
-use Rattle.std.proofs.Common.{None, Option, ap, refl, subst, sym, ◌∙◌, ◌≡◌, ℕ}
-use Rattle.core_laws.specs.Steps.{StepAnswer}
-use Rattle.core_laws.specs.declared.types.Step.{Step}
+use Rattle.std.proofs.Common.{List, None, Option, ap, refl, subst, sym, ◌∙◌, ◌≡◌, ℕ}
 use Rattle.exec_laws.proofs.Acting.{stays-both, stays-itself}
-use Rattle.exec_laws.specs.Names.{AreEdgesOf}
 use Rattle.exec_laws.specs.Prelude.{BoxPicture}
 use Rattle.exec_laws.specs.declared.edges.NodeStatus.{NodeStatus}
-use Rattle.exec_table.specs.Seats.{Identity, WorkerDoes}
-use Rattle.exec_table.specs.declared.rule.WorkerSeat.{WorkerSeat}
-use Rattle.node_cells.proofs.StayLaws.{growth-both}
+use Rattle.exec_table.specs.Seats.{Identity}
+use Rattle.node_cells.proofs.StayLaws.{growth-both, same-places}
+use Rattle.node_cells.specs.Cells.{cell_ports}
+use Rattle.node_cells.specs.Ends.{HasPlaces}
 use Rattle.node_cells.proofs.VisitLaws.{lies-seat}
-use Rattle.node_cells.specs.Stops.{stop_of}
-use Rattle.node_cells.specs.Visits.{LeavesCell, Visits, run_end_of}
+use Rattle.std.specs.Result.{result_err, result_unwrap_or}
+use Rattle.node_cells.specs.Visits.{LeavesCell, run_end_of}
 use Rattle.node_cells.specs.declared.cell.NodeCell.{NodeCell}
 use Rattle.node_cells.specs.declared.stop_cause.StopCause.{StopCause}
 use Rattle.node_cells.specs.declared.node_run.RunEnd.{RunEnd}
+use Rattle.node_cells.specs.declared.node_run.RunEnd.TheVariants as run
+use Rattle.node_births.specs.Left.{NamedNode, reserve_form}
 use Rattle.node_workers.specs.Named.{CellFits, VisitsLeave}
-use Rattle.node_workers.specs.Visits.{VisitsCell, is_device_waiting, is_to_queue}
+use Rattle.node_workers.specs.Visits.{VisitsCell, VisitsStored, visit_end}
 use Rattle.std.specs.Prelude.{Err, IfOk, Ok, Result}
 use Rattle.task_queue.specs.declared.queue.TaskQueue.{TaskQueue}
 use Rattle.task_queue.specs.declared.tasks.WorkerTasks.{WorkerTasks}
@@ -28,24 +28,24 @@ leave-itself p = record {
   growth = λ _. refl;
 }
 
-module _ {P : Type 0} (seen : P → BoxPicture) (t : Identity) (named : ℕ → BoxPicture) where
+module _ {P : Type 0} (seen : P → BoxPicture) (t : Identity) (named : ℕ → NamedNode) where
   visit-fits : (n : ℕ) (a b : NodeCell P) (o : Option StopCause) → CellFits t named seen n a None
       → LeavesCell seen t o a b → CellFits t named seen n b o
   visit-fits n a b o h left =
       let s = left.stays in let seat = lies-seat seen t o b left.lies in record {
         seat = seat;
         number = seat.number ∙ (s.ports.number ∙ (sym h.seat.number ∙ h.number));
-        edges = subst (λ l. AreEdgesOf t.sizes.wires n l b.ports.outputs.items)
-            (sym s.ports.inputs)
-            (subst (λ l. AreEdgesOf t.sizes.wires n a.ports.inputs.items l) (sym s.ports.outputs)
-            h.edges);
+        places = subst (λ (l : List ℕ × List ℕ). HasPlaces t.sizes.wires (λ e. e) n l.0 l.1
+            (cell_ports b)) (λ j. (sym s.ports.inputs j, sym s.ports.outputs j))
+            (same-places t.sizes.wires (λ e. e) n _ _ _ _ s.ports h.places);
+        reserve = ap reserve_form s.reserve ∙ h.reserve;
         box = record {
-          born = λ x. stays-both (named n) (seen a.processor) (seen b.processor) (h.box.born x)
+          born = λ x. stays-both (named n).box (seen a.processor) (seen b.processor) (h.box.born x)
               s.box;
           unborn = λ none. let same = h.box.unborn none in
               ap (λ c. seen c.processor) (left.blank (ap (λ p. p.spec) same ∙ none)) ∙ same;
-          growth = growth-both o (named n) (seen a.processor) (seen b.processor) s.box.same
-              h.box.growth s.growth;
+          growth = growth-both o (named n).box (seen a.processor) (seen b.processor)
+              s.box.same.lawful h.box.growth s.growth;
         };
         lies = left.lies;
       }
@@ -63,23 +63,13 @@ module _ {P : Type 0} (seen : P → BoxPicture) (t : Identity) (q : TaskQueue) (
     (before after : WorkerTasks) where
   -- a cell at which nobody had stopped the run was visited
   pub visits-cell : (was is o : Option StopCause) → was ≡ None → is ≡ o
-      → Visits seen t q o a b before after → VisitsCell seen t q was is a b before after
+      → VisitsStored seen t q o a.mark.state a b before after
+      → VisitsCell seen t q was is a b before after
   visits-cell was is o none now h =
       subst (λ x. VisitsCell seen t q x is a b before after) (sym none)
-      (subst (λ x. Visits seen t q x a b before after) (sym now) h)
+      (subst (λ x. VisitsStored seen t q x a.mark.state a b before after) (sym now) h)
 
-pub queue-again : (r : Result RunEnd StopCause) (s : NodeStatus) → IfOk r (λ e. e ≡ run_end_of s)
-    → is_device_waiting r ≡ is_to_queue (stop_of r) s
-queue-again (Ok e) s h = ap (λ x. is_device_waiting (Ok x)) h
-queue-again (Err c) s h = refl
-
--- what a worker did is said of a seat that knows the same
-pub does-same : (t : Identity) (s r : WorkerSeat) (p : Step) (a : StepAnswer) → r.seat.me
-    ≡ s.seat.me → WorkerDoes t s p a → WorkerDoes t r p a
-does-same t s r p a same h = record {
-  number = h.number;
-  is = ap (λ m. m.0.worker) same ∙ h.is;
-  found = h.found;
-  did = h.did;
-  says = h.says;
-}
+pub ends-visit : (r : Result RunEnd StopCause) (s : NodeStatus) → IfOk r (λ e. e ≡ run_end_of s)
+    → result_unwrap_or r run.Rests ≡ visit_end (result_err r) s
+ends-visit (Ok e) s h = h
+ends-visit (Err c) s h = refl

@@ -2,12 +2,14 @@
 use Rattle.std.specs.Prelude.{List, [], length, map, slice_index_or, ℕ, ◌≡◌, ◌≤◌}
 use mathlib.Core.Option.{some}
 use lib.ListN.{get_elem?}
-use Rattle.exec_laws.specs.Names.{AreEdgesOf}
 use Rattle.exec_laws.specs.Prelude.{BoxPicture}
 use Rattle.exec_table.specs.Seats.{Identity}
+use Rattle.node_births.specs.Left.{NamedNode}
+use Rattle.node_cells.specs.Cells.{cell_ports}
+use Rattle.node_cells.specs.Ends.{HasPlaces}
 use Rattle.node_cells.specs.Stored.{IsStored}
 use Rattle.node_cells.specs.declared.cell.NodeCell.{NodeCell}
-use Rattle.node_workers.specs.Named.{CellFits}
+use Rattle.node_workers.specs.Named.{CellFits, named_node}
 use Rattle.node_workers.specs.declared.named_cell.EndedCell.{EndedCell}
 use Rattle.proc_api.specs.Names.{no_box}
 
@@ -26,26 +28,37 @@ no_identity = record {
   sizes = record { nodes = 0; wires = []; reserves = []; workers = 0 };
 }
 
+abbrev pub no_node : NamedNode
+no_node = record {
+  box = no_box;
+  reserve = record {
+    rank = 0;
+    nodes = 0;
+    left = record { blanks = []; edges = 0 };
+    next_edge = 0;
+  };
+}
+
 module _ {P : Type 0} (seen : P → BoxPicture) where
   -- the cells of the first nodes, in order of their numbers, of which none is in a turn
   pub record AreStored (t : Identity) (cells : List (NodeCell P)) : Type 0 where
     pub few : length cells ≤ 256
     pub stored : (n : ℕ) (c : NodeCell P) → get_elem? cells n ≡ some c → IsStored seen t c
     pub numbers : (n : ℕ) (c : NodeCell P) → get_elem? cells n ≡ some c → c.seat.node ≡ n
-    pub edges : (n : ℕ) (c : NodeCell P) → get_elem? cells n ≡ some c
-        → AreEdgesOf t.sizes.wires n c.ports.inputs.items c.ports.outputs.items
+    pub places : (n : ℕ) (c : NodeCell P) → get_elem? cells n ≡ some c → HasPlaces t.sizes.wires
+        (λ e. e) n c.ports.inputs.items c.ports.outputs.items (cell_ports c)
 
-  -- what the boxes of the cells are
-  abbrev pub named_by : List (NodeCell P) → ℕ → BoxPicture
-  named_by cells n = slice_index_or (map (λ c. seen c.processor) cells) n no_box
+  -- what the boxes and the reserves of the cells are
+  abbrev pub named_by : List (NodeCell P) → ℕ → NamedNode
+  named_by cells n = slice_index_or (map (named_node seen) cells) n no_node
 
-  -- each cell has the box that is named of its node
-  abbrev pub AreNamed : (ℕ → BoxPicture) → List (NodeCell P) → Type 0
+  -- each cell has what is named of its node
+  abbrev pub AreNamed : (ℕ → NamedNode) → List (NodeCell P) → Type 0
   AreNamed named cells =
-      (n : ℕ) (c : NodeCell P) → get_elem? cells n ≡ some c → named n ≡ seen c.processor
+      (n : ℕ) (c : NodeCell P) → get_elem? cells n ≡ some c → named n ≡ named_node seen c
 
-  -- each cell is that of its node, with the box that was named
-  pub record AreEnded (t : Identity) (named : ℕ → BoxPicture) (count : ℕ)
+  -- each cell is that of its node, with the box and the reserve that were named
+  pub record AreEnded (t : Identity) (named : ℕ → NamedNode) (count : ℕ)
       (cells : List (EndedCell P)) : Type 0 where
     pub many : length cells ≡ count
     pub each : (n : ℕ) (d : EndedCell P) → get_elem? cells n ≡ some d

@@ -5,6 +5,7 @@ use Rattle.exec_laws.specs.Prelude.{BoxPicture}
 use Rattle.exec_table.specs.Seats.{Identity, IsRootOf, identity_of}
 use Rattle.exec_table.specs.declared.rule.ExecTable.{ExecTable}
 use Rattle.exec_table.specs.declared.rule.RootSeat.{RootSeat}
+use Rattle.node_births.specs.Left.{NamedNode}
 use Rattle.node_cells.specs.declared.cell.NodeCell.{NodeCell}
 use Rattle.node_workers.specs.Ended.{AreEnded, AreStored}
 use Rattle.node_workers.specs.Workers.{HasSpare, WorkerHasEnded}
@@ -23,7 +24,7 @@ pub record MayRunCells {P : Type 0} (seen : P → BoxPicture) (t : Identity) (ro
 -- What a run gives back: the table and its root, so many workers, each of which saw the end, and
 -- the cells of so many nodes.
 pub record RunHasEnded {P : Type 0} (seen : P → BoxPicture) (t : Identity)
-    (named : ℕ → BoxPicture) (table : ExecTable) (workers nodes : ℕ) (r : Ended P) : Type 0 where
+    (named : ℕ → NamedNode) (table : ExecTable) (workers nodes : ℕ) (r : Ended P) : Type 0 where
   pub same_table : r.table ≡ table
   pub root_of : IsRootOf (identity_of table) r.root
   pub seats : All (WorkerHasEnded (identity_of table)) r.workers.items

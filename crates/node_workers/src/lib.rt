@@ -4,8 +4,9 @@
 //! shelf, runs the node until its cell may go home, and releases the place. The cell stays where it
 //! lies: to move it out and back would cost as much as a short visit. A worker takes the numbers
 //! that it kept first, then those in the queue, and before each it sees whether anything is pending
-//! and whether the run was stopped. After a fault, or a growth with a flaw, it notes the cause in
-//! the cell, which goes home held, and stops the run of all.
+//! and whether the run was stopped. A node by which the graph is to grow is queued again, and grows
+//! at its next visit. After a fault, or a growth with a flaw, the worker notes the cause in the
+//! cell, which goes home held, and stops the run of all.
 //!
 //! No processor is prepared by two threads at once, or while it works: each call of a box is made
 //! through its `NodeCell`, and only in a turn, in which the seat of that cell says held (`IsDue`,
@@ -18,6 +19,7 @@
 //!
 //! - `named_cell.rt`: a cell on the shelf, and which place it fits
 //! - `visit.rt`: a worker's visit of a node
+//! - `growth.rt`: a node grows, between two runs of it
 //! - `worker.rt`: what workers share, and a worker from its first number to its end
 //! - `rooms.rt`: the room of a run, which is taken before its first step
 //! - `run.rt`: a run of all cells by so many workers
@@ -26,6 +28,7 @@
 //!   cells before a run and after it; `specs/Runs.antt`: when a run may be made, and what it gives
 #![tactic(auto)]
 
+mod growth;
 mod named_cell;
 mod rooms;
 mod run;

@@ -1,19 +1,19 @@
 //! A cell on the shelf.
 ghost use Rattle.std.specs.Prelude.{ℕ};
-ghost use Rattle.exec_laws.specs.Prelude.{BoxPicture};
 ghost use Rattle.exec_table.specs.Seats.{Identity};
+ghost use Rattle.node_births.specs.Left.{NamedNode};
 
 use node_cells::{NodeCell, StopCause};
 use proc_api::Processor;
 use std::marker::PhantomData;
 use task_queue::Placed;
 
-/// The table of the cells' seats, and what the box of each node was before the run. It has no
-/// calls.
+/// The table of the cells' seats, and what each node's box and reserve were before the run. It has
+/// no calls.
 pub trait Naming: Send + Sync {
     ghost identity: { Identity };
 
-    ghost named: { ℕ → BoxPicture };
+    ghost named: { ℕ → NamedNode };
 }
 
 /// A node's cell with the cause for which the run was stopped at it.

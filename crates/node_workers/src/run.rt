@@ -43,15 +43,15 @@ pub struct NotStarted<P: Processor> {
 }
 
 impl Naming for Brand {
-    ghost use Rattle.node_workers.specs.Ended.{no_identity};
-    ghost use Rattle.proc_api.specs.Names.{no_box};
+    ghost use Rattle.node_workers.specs.Ended.{no_identity, no_node};
 
     ghost identity = { no_identity };
 
-    ghost named = { λ n. no_box };
+    ghost named = { λ n. no_node };
 }
 
-/// Offers each node that a new table has charged: one that may begin and has no output.
+/// Offers each node that may begin, from the last one on. A new table has charged those without
+/// outputs; the others begin too, so that none is left that never did.
 fn offer_first<P: Processor, R: Wait>(
     rt: &R,
     queue: &TaskQueue,
@@ -63,8 +63,9 @@ fn offer_first<P: Processor, R: Wait>(
     ensures pass { IsPassOf queue.now tasks.new.pass }
     ensures offers { OffersNumbers queue.now tasks.old tasks.new }
 {
-    for n in 0..cells.len() {
-        if cells[n].mark.state == NodeStatus::Due && cells[n].ports.outputs.is_empty() {
+    for k in 0..cells.len() {
+        let n = cells.len() - 1 - k;
+        if cells[n].mark.state == NodeStatus::Due {
             tasks.offer(rt, queue, n as u32);
         }
     }
@@ -173,6 +174,7 @@ fn run_shared<P: Processor, J: Naming, R: Threads + Wait + Sync>(
     run_workers(rt, &shared, workers.as_mut_slice());
     part_workers(workers, &mut seats, &mut shelf_seats, &shared);
     let Shared {
+        alloc: _,
         table,
         queue: _,
         shelf,
@@ -222,6 +224,7 @@ fn run_named<P: Processor, J: Naming, R: Threads + Wait + Sync>(
         }
         Ok((shelf, shelf_seat)) => {
             let shared = Shared {
+                alloc,
                 table,
                 queue,
                 shelf,

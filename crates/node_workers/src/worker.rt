@@ -13,7 +13,9 @@ use crate::visit::visit_cell;
 use atomic_table::Seat;
 use crossbeam_utils::Backoff;
 use exec_table::{ExecTable, Seen, WorkerSeat};
+use node_cells::RunEnd;
 use proc_api::Processor;
+use std::alloc::Global;
 use std::sync::Wait;
 use std::thread::{Threads, for_each_mut};
 use task_queue::{Bell, Holding, Placed, Shelf, ShelfSeat, TaskQueue, WorkerTasks};
@@ -34,9 +36,11 @@ const LOOKS_BETWEEN_NAPS: u32 = 256;
 /// given up, take some 13 seconds, and little of a processor.
 const LOOKS_A_MICROSECOND: u32 = 10;
 
-/// What all workers share: the table, the numbers of nodes that are due, and the cells.
+/// What all workers share: the memory for growth, the table, the numbers of nodes that are due, and
+/// the cells.
 #[derive(Drop)]
 pub struct Shared<P: Processor, J: Naming> {
+    pub alloc: Global,
     pub table: ExecTable,
     pub queue: TaskQueue,
     pub shelf: Shelf<NamedCell<P, J>>,
@@ -63,8 +67,7 @@ fn nap_between_looks<R: Wait>(rt: &R, bell: &Bell, looks: &mut u32) {
     }
 }
 
-/// Visits the node whose cell lies at the place that was claimed last. Says whether it is to be
-/// queued again.
+/// Visits the node whose cell lies at the place that was claimed last.
 fn visit_slot<P: Processor, J: Naming, R: Wait>(
     rt: &R,
     shared: &Shared<P, J>,
@@ -72,7 +75,7 @@ fn visit_slot<P: Processor, J: Naming, R: Wait>(
     tasks: &mut WorkerTasks,
     place: &mut Seat<Option<NamedCell<P, J>>, Holding>,
     n: u32,
-) -> bool
+) -> RunEnd
     requires shared { IsShared J.identity shared.now }
     requires worker { MayVisit (identity_of shared.now.table) shared.now.queue seat.old tasks.old }
     requires place { place.old.table_id ≡ shared.now.shelf.table.shared.table_id }
@@ -84,7 +87,15 @@ fn visit_slot<P: Processor, J: Naming, R: Wait>(
 {
     let slot = place.slot_mut(&shared.shelf.table.shared, n as usize);
     match slot {
-        Some(named) => visit_cell(rt, &shared.table, &shared.queue, seat, tasks, named),
+        Some(named) => visit_cell(
+            rt,
+            shared.alloc,
+            &shared.table,
+            &shared.queue,
+            seat,
+            tasks,
+            named,
+        ),
         None => unreachable!(),
     }
 }
@@ -97,7 +108,7 @@ fn visit_in_place<P: Processor, J: Naming, R: Wait>(
     tasks: &mut WorkerTasks,
     shelf: &mut ShelfSeat<NamedCell<P, J>>,
     n: u32,
-) -> bool
+) -> RunEnd
     requires shared { IsShared J.identity shared.now }
     requires worker { MayVisit (identity_of shared.now.table) shared.now.queue seat.old tasks.old }
     requires shelf { IsIdleSeatOf shared.now.shelf shelf.old }
@@ -108,14 +119,14 @@ fn visit_in_place<P: Processor, J: Naming, R: Wait>(
     ensures parts { parts shelf.new ≡ parts shelf.old }
 {
     shared.shelf.claim(rt, &mut shelf.seat, n);
-    let waits = visit_slot(rt, shared, seat, tasks, &mut shelf.seat, n);
+    let end = visit_slot(rt, shared, seat, tasks, &mut shelf.seat, n);
     shared.shelf.release(&mut shelf.seat, n);
-    waits
+    end
 }
 
 /// Visits the node with this number, and queues it again behind the others where its device has
-/// nothing yet. A worker that finds nothing but such nodes naps now and then, and has the node
-/// meanwhile, so that no other looks at its device.
+/// nothing yet, or the graph is to grow by it. A worker that finds nothing but devices that have
+/// nothing yet naps now and then, and has the node meanwhile, so that no other looks at its device.
 fn visit<P: Processor, J: Naming, R: Wait>(
     rt: &R,
     shared: &Shared<P, J>,
@@ -129,7 +140,7 @@ fn visit<P: Processor, J: Naming, R: Wait>(
     ensures parts { parts worker.new.shelf ≡ parts worker.old.shelf }
     ensures offers { OffersNumbers shared.now.queue worker.old.tasks worker.new.tasks }
 {
-    let waits = visit_in_place(
+    let end = visit_in_place(
         rt,
         shared,
         &mut worker.seat,
@@ -137,11 +148,13 @@ fn visit<P: Processor, J: Naming, R: Wait>(
         &mut worker.shelf,
         n,
     );
-    if waits {
-        nap_between_looks(rt, &shared.queue.bell, &mut worker.looks);
-        worker.tasks.offer_again(rt, &shared.queue, n);
-    } else {
-        worker.looks = 0;
+    match end {
+        RunEnd::Rests => worker.looks = 0,
+        RunEnd::Waits => {
+            nap_between_looks(rt, &shared.queue.bell, &mut worker.looks);
+            worker.tasks.offer_again(rt, &shared.queue, n);
+        }
+        RunEnd::Grows => worker.tasks.offer_again(rt, &shared.queue, n),
     }
 }
 
@@ -186,8 +199,9 @@ fn visit_next<P: Processor, J: Naming, R: Wait>(
     }
 }
 
-/// A worker visits nodes until nothing is pending, or the run was stopped, which it lets all others
-/// see. Where there is no number it looks a few times more, and then sleeps until one is offered.
+/// A worker visits nodes until the run was stopped, or there is no number and nothing is pending,
+/// which it lets all others see. Where there is no number and something is pending it looks a few
+/// times more, and then sleeps until a number is offered.
 pub fn run_worker<P: Processor, J: Naming, R: Wait>(
     rt: &R,
     shared: &Shared<P, J>,
@@ -203,18 +217,27 @@ pub fn run_worker<P: Processor, J: Naming, R: Wait>(
     for _ in rt.forever() {
         let count = bell.count();
         match shared.table.see(&mut worker.seat) {
-            Seen::Zero | Seen::Stopped => {
+            Seen::Stopped => {
                 bell.ring_for_all();
                 return;
             }
-            Seen::Pending(_) => {}
+            Seen::Zero | Seen::Pending(_) => {}
         }
         if visit_next(rt, shared, worker) {
             backoff.reset();
-        } else if backoff.is_completed() {
-            lie_down_or_sleep(rt, bell, count, &mut worker.is_lying);
         } else {
-            backoff.snooze();
+            match shared.table.see(&mut worker.seat) {
+                Seen::Zero | Seen::Stopped => {
+                    bell.ring_for_all();
+                    return;
+                }
+                Seen::Pending(_) => {}
+            }
+            if backoff.is_completed() {
+                lie_down_or_sleep(rt, bell, count, &mut worker.is_lying);
+            } else {
+                backoff.snooze();
+            }
         }
     }
     unreachable!()

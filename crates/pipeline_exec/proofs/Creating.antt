@@ -1,21 +1,19 @@
 -- The state before the first move.
-use Rattle.pipeline_exec.proofs.Words.{AreEdgesOf, AreFirstPorts, AreNewEdges, AreNewFrom, AreReserves, AreStarting, Bool, BoxPicture, Cell, CellPicture, EdgeState, FillsRoundCells, HasEdge, HasWire, HoldsGraph, Input, IsFresh, IsGraph, IsUnderWay, List, NodeMark, None, Output, Port, Reserve, RoundPorts, Side, StartsAs, Wire, [], ap, are_left, arith, both_ways, box-of, box_at, boxes_of, cases_lt, cell_at, cell_picture, cells_of, cond_both, edge_at, eq-eqb, false, first_round_mark, get_or-eq_default, inl, input-of-count, input_count, inr, is_port_end, is_reserved, length, length-append, length-map, map, new_mark, new_picture, no_cell, output-of-count, output_count, port_count, port_on, refl, reserve_at, reserve_of, rules, start_runs, subst, suc, sym, true, wire_at, zero, ℕ, ◌++◌, ◌+◌, ◌<◌, ◌==◌, ◌∙◌, ◌∷◌, ◌≡◌, ◌≤◌}
+use Rattle.pipeline_exec.proofs.Words.{AreEdgesOf, AreFirstPorts, AreNewEdges, AreNewFrom, AreReserves, AreStarting, Bool, BoxPicture, Cell, CellPicture, EdgeState, FillsRoundCells, HasEdge, HoldsGraph, Input, Inputs, IsFresh, IsGraph, IsUnderWay, List, NodeMark, None, Output, Outputs, Port, Reserve, RoundPorts, Side, StartsAs, Wire, [], ap, are_left, arith, box-of, box_at, boxes_of, cases_lt, cell_at, cell_picture, cells_of, cond_both, edge_at, false, first_round_mark, get_or-eq_default, inl, input-of-count, input_count, inr, is_reserved, length, length-append, length-map, map, new_mark, new_picture, no_cell, output-of-count, output_count, port_count, port_on, refl, reserve_at, reserve_of, start_runs, subst, suc, sym, true, zero, ℕ, ◌++◌, ◌+◌, ◌<◌, ◌==◌, ◌∙◌, ◌∷◌, ◌≡◌, ◌≤◌}
 use Rattle.exec_laws.specs.declared.edges.NodeStatus.TheVariants as node
+use Rattle.node_cells.specs.NewCells.{HasEdgeAt}
 
 -- ---- edges of a node
 
--- a port that has a wire is found
-pub found-some : (wires : List Wire) (n : ℕ) (p : Port) → HasWire wires n p
-    → ((e : ℕ) → e < length wires → is_port_end (wire_at wires e) n p ≡ false) → ⊥
-found-some wires n (Input i) h none =
-    both_ways _ (none h.edge h.in_range) (search (rules, eq-eqb, h.to, h.input_is))
-found-some wires n (Output o) h none =
-    both_ways _ (none h.edge h.in_range) (search (rules, eq-eqb, h.from, h.out_is))
-
--- a port within the counts has a wire
-pub has-wire : (nodes : ℕ) (wires : List Wire) → HoldsGraph nodes wires
-    → (n : ℕ) (side : Side) (k : ℕ) → k < port_count wires n side → HasWire wires n (port_on side k)
-has-wire nodes wires h1 n side k h2 = search (rules, input-of-count, output-of-count)
+-- a port within the counts has an edge
+pub has-edge : (nodes : ℕ) (wires : List Wire) → HoldsGraph nodes wires → (n : ℕ) (side : Side)
+    (k : ℕ) → k < port_count wires n side → HasEdgeAt wires n (port_on side k)
+has-edge nodes wires h n Inputs k lt =
+    let w = input-of-count h.ranks wires h.reserves h.graph n k lt in
+    (w.edge, record { in_range = w.in_range; at_port = (w.to, w.input_is) })
+has-edge nodes wires h n Outputs k lt =
+    let w = output-of-count h.ranks wires h.reserves h.graph n k lt in
+    (w.edge, record { in_range = w.in_range; at_port = (w.from, w.out_is) })
 
 -- the ports of one more node
 pub more-ports : (rs : List Reserve) (wires : List Wire) (k : ℕ) (all : List RoundPorts)

@@ -1,5 +1,5 @@
 -- A growth without a flaw, carried out, keeps the state of the run.
-use Rattle.pipeline_exec.proofs.Words.{AreAllBorn, AreBirths, AreFree, AsksToGrow, Avoids, Birth, Blank, Bool, BoxPicture, CarriesOut, CellPicture, ChangesCell, EdgeState, ExecutorPicture, GivesBox, GrewBox, GrewCell, GrowsTo, GrowthForm, HoldsGraph, Input, IsBorn, IsBornCell, IsFlawless, IsFresh, IsGraph, IsNewNode, IsTrue, IsUnderWay, Left, List, Loads, MarkHolds, MayCarryOut, Me, New, NewEdge, NodeStatus, None, Option, Output, Picture, Reserve, Running, Some, Spec, Status, Who, Wire, [], after_grow, and_parts, ap, append-nil, arith, blanks_of, both_ways, box-of, boxes_of, busy-born, cases_Bool, cases_eq, cell_at, cond, count_by, edge_at, end_node, eq-eqb, false, false_from_ne_true, form_at, form_kind, get_or, get_or-replicate, get_or-set_other, get_or-set_same, get_or_append_left, graph-grown, growing_runs_on, grown-counts, growth_flaw, growths_of, has_gap, has_wrong_end, inl, input_count, inr, is_me, is_named, is_some, is_unborn_state, keeps-gives, keeps-itself, kept_growths, left_at, length, length-append, length-map, length-replicate, length-set, list_any, list_any_at, ltb-false, ltb-true, map, ne_eqb, new_edge, new_wire, new_wires, no_wire, none-of, not, not-blank, not-false, or_parts, output_count, place-of, place_at, places_for, rank_at, refl, replicate, reserve_of, set_ranks, set_ranks-length, stays-itself, subst, suc, sum_by-cons, sym, take, true, unborn_of, wire_at, wired_by, zero, ℕ, ◌++◌, ◌+◌, ◌-◌, ◌<◌, ◌==◌, ◌∙◌, ◌∷◌, ◌≡◌, ◌≢◌, ◌≤◌, ◌⊎◌}
+use Rattle.pipeline_exec.proofs.Words.{AreAllBorn, AreBirths, AreFree, AsksToGrow, Avoids, Birth, Blank, Bool, BoxPicture, CarriesOut, CellPicture, ChangesCell, EdgeState, ExecutorPicture, GivesBox, GrewBox, GrewCell, GrowsTo, GrowthForm, HoldsGraph, Input, IsBorn, IsBornCell, IsFlawless, IsFresh, IsGraph, IsNewNode, IsTrue, IsUnderWay, Left, List, Loads, MarkHolds, MayCarryOut, Me, New, NewEdge, NodeStatus, None, Option, Output, Picture, Reserve, Running, Some, Spec, Status, Who, Wire, [], after_grow, and_parts, ap, append-nil, arith, blanks_of, both_ways, box-of, boxes_of, busy-born, cases_Bool, cases_eq, cell_at, cond, count_by, edge_at, end_node, eq-eqb, false, false_from_ne_true, form_at, form_kind, get_or, get_or-replicate, get_or-set_other, get_or-set_same, get_or_append_left, graph-grown, growing_runs_on, grown-counts, growth_flaw, growths_of, has_gap, has_wrong_end, inl, input_count, inr, is_me, is_named, is_some, is_unborn_state, keeps-gives, keeps-itself, kept_growths, left_at, length, length-append, length-map, length-replicate, length-set, list_any, list_any_at, ltb-false, ltb-true, map, ne_eqb, new_edge, new_wire, new_wires, no_wire, none-of, not, not-blank, not-false, or_parts, output_count, place-of, place_at, places_for, rank_at, refl, replicate, reserve_of, set_ranks, set_ranks-length, stays-itself, subst, suc, sum_by-cons, sym, true, unborn_of, wire_at, wired_by, zero, ℕ, ◌++◌, ◌+◌, ◌-◌, ◌<◌, ◌==◌, ◌∙◌, ◌∷◌, ◌≡◌, ◌≢◌, ◌≤◌, ◌⊎◌}
 use Rattle.std.proofs.Math.Seq.{get_or-append_right}
 use Rattle.graph_checks.proofs.FlawLaws.{places-length}
 use Rattle.exec_laws.specs.declared.edges.DueCall.TheVariants as call

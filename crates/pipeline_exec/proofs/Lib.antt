@@ -10,4 +10,5 @@ pub mod GrowthRuns
 pub mod GrowthSteps
 pub mod GrowthEnds
 pub mod WorkerEnds
+pub mod Completeness
 pub mod Imports

@@ -1,27 +1,37 @@
 -- The ends of a run by workers of a graph without reserves, in which no node is born.
-use Rattle.pipeline_exec.proofs.Words.{AreAllBorn as AreNamedBorn, AreBirths, AreStarting, Bool, BoxPicture, ExecEndHolds, EndsBadly, ExecEnd, GivenBack, GivesBox, GrowthFlaw, IsBorn, IsTrue, IfNone, IfSome, List, None, Option, SameBox, Some, Wire, WorkFault, [], ap, append-nil, arith, at-node, box_at, cases_lt, cond, false, get_or, get_or-eq_default, get_or-set_other, get_or-set_same, inl, inr, keeps-gives, keeps-itself, length, length-map, length-set, map, nat_lt, no_box, not-blank, refl, set, subst, sym, true, ℕ, ◌<◌, ◌≤◌, ◌∙◌, ◌≡◌, ◌≢◌}
+use Rattle.pipeline_exec.proofs.Words.{AreAllBorn as AreNamedBorn, AreBirths, AreStarting, BoxPicture, EndsBadly, ExecEnd, ExecEndHolds, GivenBack, GivesBox, GrowthFlaw, GrowthForm, IfNone, IfSome, IsBorn, IsTrue, List, None, Option, SameBox, Some, Wire, WorkFault, [], ap, append-nil, arith, at-node, box_at, cases_lt, get_or, get_or-eq_default, get_or-set_other, get_or-set_same, inl, inr, keeps-gives, keeps-itself, length, length-map, length-set, map, no_box, not-blank, rank_at, refl, set, subst, suc, sym, zero, ℕ, ◌<◌, ◌∙◌, ◌∷◌, ◌≡◌, ◌≢◌, ◌≤◌}
 use Rattle.atomic_table.proofs.Lists.{at_index, at_map}
-use Rattle.exec_laws.specs.declared.growth.GrowthFlaw.TheVariants as flaw
+use Rattle.exec_laws.specs.Growths.{Left, form_kind, growth_flaw}
+use Rattle.exec_laws.specs.Names.{IsBadGrowth, grown_wires, left_of}
 use Rattle.exec_table.specs.Seats.{Identity, identity_of}
-use Rattle.node_cells.specs.Stops.{GrowthStays}
+use Rattle.graph_checks.proofs.FlawLaws.{flaw-over-own, growth-flaw-is, places-length}
+use Rattle.graph_checks.specs.Flaws.{TakeSamePorts, flaw_over}
+use Rattle.node_cells.proofs.VisitLaws.{lies-stop}
+use Rattle.node_cells.proofs.OwnWires.{known-take-same}
+use Rattle.node_cells.specs.NewReserves.{IsNewReserve}
+use Rattle.node_cells.specs.Stops.{GrowthStays, KeepsFlaw, StopHolds, wires_known}
 use Rattle.node_cells.specs.Stored.{AwaitsBirth, IsStored, StoredAs}
 use Rattle.node_cells.specs.Visits.{LiesAs}
 use Rattle.node_cells.specs.declared.cell.NodeCell.{NodeCell}
+use Rattle.node_cells.specs.declared.cell.NodeReserve.{NodeReserve}
 use Rattle.node_cells.specs.declared.stop_cause.StopCause.{StopCause}
 use Rattle.node_cells.specs.declared.stop_cause.StopCause.TheVariants as cause
 use Rattle.node_cells.specs.declared.new_cells.Cells.{Cells}
-use Rattle.node_ends.proofs.Boxes.{AreAllBorn, given-both, growths-both, stops-both}
-use Rattle.node_ends.proofs.CellChanges.{all-born}
-use Rattle.node_ends.proofs.NewCells.{new-cells}
+use Rattle.node_ends.proofs.Boxes.{growths-both, stayed-both, stayed-given, stops-both}
+use Rattle.node_ends.proofs.NewCells.{new-cells, own-places}
 use Rattle.node_workers.proofs.NewCells.{new-stored}
+use Rattle.node_workers.proofs.EndLaws.{named-themselves}
 use Rattle.node_workers.specs.Ended.{AreEnded, named_by}
+use Rattle.port_word.specs.declared.flags.Reserve.{Reserve}
+use Rattle.std.proofs.lemmas.Bool.{lt-ltb}
 use Rattle.std.proofs.lemmas.Simd.{map-map}
 use Rattle.node_ends.proofs.Lists.{below, read-map, there}
-use Rattle.node_ends.specs.CellLists.{AreCells, IsCellOf, boxes_in}
-use Rattle.node_ends.specs.RunEnds.{GrowthsStay, NodesEndHolds as CellsEndHolds, StopsAt}
+use Rattle.node_ends.specs.CellLists.{AreOwnCells, CellGraph, IsCellOf, IsUnborn, boxes_in, own_graph}
+use Rattle.node_ends.specs.RunEnds.{BoxesStay, GrowthsStay, NodesEndHolds as CellsEndHolds, StopsAt}
 use Rattle.node_ends.specs.declared.node_ends.NodesEnd.{NodesEnd}
 use Rattle.node_ends.specs.declared.node_ends.NodesEnd.TheVariants as nodes_end
-use Rattle.node_workers.specs.Named.{CellFits}
+use Rattle.node_births.specs.Left.{reserve_form}
+use Rattle.node_workers.specs.Named.{CellFits, VisitsLeave}
 use Rattle.node_workers.specs.Runs.{MayRunCells}
 use Rattle.node_workers.specs.declared.named_cell.EndedCell.{EndedCell}
 use Rattle.pipeline_exec.specs.Ends.{Begun, IsFaultEnd}
@@ -77,58 +87,50 @@ module _ (before after : List BoxPicture) (starting : AreStarting [] before)
 
 -- ---- what the end of the cells says of the graph's
 
--- a first flaw is the first one, whatever is looked for behind it
-nested-flaw : (p q : Bool) (x y z : Option GrowthFlaw) (f : GrowthFlaw)
-    → cond p x (cond q y None) ≡ Some f → cond p x (cond q y z) ≡ Some f
-nested-flaw true q x y z f h = h
-nested-flaw false true x y z f h = h
-nested-flaw false false x y z f h = absurd (cc)
+module _ {P : Type 0} (seen : P → BoxPicture) (b : Begun) (wires : List Wire)
+    (old : List (NodeCell P)) (begins : BeginsAs seen wires old b)
+    (starting : AreStarting [] (boxes_in seen old)) (after : List BoxPicture)
+    (back : GivenBack (boxes_in seen old) after) where
+  abbrev old_boxes : List BoxPicture
+  old_boxes = boxes_in seen old
 
-module _ (b : Begun) (wires : List Wire) (boxes after : List BoxPicture)
-    (begins : BeginsAs wires boxes b) (starting : AreStarting [] boxes)
-    (back : GivenBack boxes after) where
-  births : (left : List BoxPicture) → GivenBack boxes left → AreBirths b.reserves b.boxes left []
-  births left given = rw (begins.bare, begins.boxes_are) (no-node-born boxes left starting given)
+  births : (left : List BoxPicture) → GivenBack old_boxes left
+      → AreBirths b.reserves b.boxes left []
+  births left given =
+      rw (begins.bare, begins.boxes_are) (no-node-born old_boxes left starting given)
 
-  all-births : GrowthsStay boxes after → AreNamedBorn b.boxes after []
-  all-births stay = rw begins.boxes_are (all-named-born boxes after starting back stay)
+  all-births : GrowthsStay old_boxes after → AreNamedBorn b.boxes after []
+  all-births stay = rw begins.boxes_are (all-named-born old_boxes after starting back stay)
 
-  bad-growth : (n : ℕ) (f : GrowthFlaw) → StopsAt n (cause.Flaw f) boxes after
+  bad-growth : (n : ℕ) (f : GrowthFlaw) → IsBadGrowth b.ranks b.wires b.reserves [] after n f
+      → GrowthStays (Some (cause.Flaw f)) (box_at old_boxes n) (box_at after n)
       → EndsBadly b after n f
   unfolding box_at
-  bad-growth n f h =
-      let lt = h.in_range in
-      let within : n < length boxes = omega (arith, lt, back.count) in
-      let grown : List BoxPicture = set after n (box_at boxes n) in
-      let here : box_at grown n ≡ box_at boxes n = get_or-set_same after n _ no_box lt in
+  bad-growth n f bad ungrown =
+      let lt = bad.in_range in
+      let within : n < length old_boxes = omega (arith, lt, back.count) in
+      let grown : List BoxPicture = set after n (box_at old_boxes n) in
+      let here : box_at grown n ≡ box_at old_boxes n = get_or-set_same after n _ no_box lt in
       let others : (k : ℕ) → k ≢ n → box_at after k ≡ box_at grown k =
       (λ k ne. sym (get_or-set_other after n k _ no_box ne)) in
-      let same = same-box boxes after starting back n within in
+      let same = same-box old_boxes after starting back n within in
       record {
         births = [];
         grown = grown;
         are = births grown record {
-          count = length-set after n (box_at boxes n) ∙ back.count;
-          each = λ k less. at-node (λ k. GivesBox (box_at boxes k) (box_at grown k)) n k
+          count = length-set after n (box_at old_boxes n) ∙ back.count;
+          each = λ k less. at-node (λ k. GivesBox (box_at old_boxes k) (box_at grown k)) n k
               (rw here (keeps-gives _ _ (keeps-itself _)))
               (λ ne. rw (← others k ne) (back.each k less));
         };
         graph = rw append-nil begins.graph;
         others = others;
         same = rw here same;
-        once = λ lawful. rw here (h.growth lawful);
-        bad = record {
-          in_range = lt;
-          growth = h.stop.growth;
-          kept = h.stop.kept;
-          may_grow = h.stop.may_grow;
-          flawed = rw begins.bare (nested-flaw (nat_lt 0 (length h.stop.growth.specs))
-              (nat_lt 0 (length h.stop.growth.edges)) (Some flaw.TooManyNodes)
-              (Some flaw.TooManyEdges) _ f h.stop.flawed);
-        };
+        once = λ lawful. rw here (ungrown lawful);
+        bad = bad;
       }
 
-  fault-ends : (n : ℕ) (f : WorkFault) (e : ExecEnd) → StopsAt n (cause.Fault f) boxes after
+  fault-ends : (n : ℕ) (f : WorkFault) (e : ExecEnd) → StopsAt n (cause.Fault f) old_boxes after
       → IsFaultEnd e n f → ExecEndHolds e b after
   fault-ends n f end.Done h i = absurd i
   fault-ends n f (end.Stuck report m) h i = absurd i
@@ -141,7 +143,7 @@ module _ (b : Begun) (wires : List Wire) (boxes after : List BoxPicture)
   }
 
   -- the end of the cells' run is that of the graph's
-  pub cells-end : (x : NodesEnd) (e : ExecEnd) → CellsEndHolds x wires boxes after → IsEndOf x e
+  cells-end : (x : NodesEnd) (e : ExecEnd) → CellsEndHolds x wires old_boxes after → IsEndOf x e
       → ExecEndHolds e b after
   cells-end nodes_end.Done e h i = rw i record {
     grown = record {
@@ -156,9 +158,52 @@ module _ (b : Begun) (wires : List Wire) (boxes after : List BoxPicture)
     all = all-births h.1;
   }
   cells-end (nodes_end.Stopped n (cause.Fault f)) e h i = fault-ends n f e h i
-  cells-end (nodes_end.Stopped n (cause.Flaw f)) e h i = rw i (bad-growth n f h)
+  cells-end (nodes_end.Stopped n (cause.Flaw f)) e h i = absurd h.stop
+  cells-end (nodes_end.Stopped n cause.Memory) e h i = rw i tt
+
+-- ---- the flaw of a growth, over the wires that its node knows
+
+-- a node of which nothing is kept
+abbrev bare_left : Left
+bare_left = record { blanks = []; edges = 0 }
+
+-- it grows by no new node, so that wires which take the same ports of it serve
+bare-flaw : (rank past : ℕ) (own wires : List Wire) (n : ℕ) (g : GrowthForm)
+    → TakeSamePorts own wires n
+    → flaw_over rank past own bare_left n g ≡ flaw_over rank past wires bare_left n g
+bare-flaw rank past own wires n g same = elim (cases_lt 0 (length g.specs)) [
+  | inl more ↦ rw (lt-ltb 0 (length g.specs) more) refl
+  | inr none ↦ let places = places-length (map form_kind g.specs) [] past in
+      let kinds = length-map g.specs form_kind in
+      flaw-over-own rank past bare_left n g own wires same
+      (λ k lt. absurd (omega (arith, lt, places, kinds, none)))
+]
+
+-- a reserve of a new graph without reserves
+bare-reserve : (ranks : List ℕ) (boxes : List BoxPicture) (n : ℕ) (r : NodeReserve)
+    → IsNewReserve ranks [] boxes n r → length boxes ≡ length ranks
+    → reserve_form r ≡ record {
+      rank = rank_at ranks n;
+      nodes = length ranks;
+      left = bare_left;
+      next_edge = 0;
+    }
+bare-reserve ranks boxes n r h many = λ j. record {
+  rank = h.rank j;
+  nodes = (h.nodes ∙ many) j;
+  left = record { blanks = h.blanks j; edges = h.edges j };
+  next_edge = h.next_edge j;
+}
 
 -- ---- the cells that workers leave
+
+-- what is named of a node has its box
+box-named : {P : Type 0} (seen : P → BoxPicture) (cells : List (NodeCell P)) (n : ℕ)
+    → (named_by seen cells n).box ≡ box_at (boxes_in seen cells) n
+unfolding box_at
+box-named seen [] n = refl
+box-named seen (c ∷ cs) zero = refl
+box-named seen (c ∷ cs) (suc n) = box-named seen cs n
 
 -- the run was stopped at a cell that was read
 pub stopped-at : {P : Type 0} (cells : List (EndedCell P)) (n : ℕ) (x : EndedCell P)
@@ -171,7 +216,7 @@ stopped-at {P} cells n x s lt read is = record {
 }
 
 module _ {P : Type 0} (seen : P → BoxPicture) (t : Identity) (old : List (NodeCell P))
-    (cells : List (EndedCell P)) (all : AreCells seen t old)
+    (cells : List (EndedCell P)) (all : AreOwnCells seen t old)
     (ended : AreEnded seen t (named_by seen old) (length old) cells) where
   abbrev left : List (NodeCell P)
   left = map cell_of cells
@@ -184,45 +229,126 @@ module _ {P : Type 0} (seen : P → BoxPicture) (t : Identity) (old : List (Node
   EndedAt n d = (get_elem? cells n ≡ some d)
       × (box_at (boxes_in seen left) n ≡ seen d.cell.processor)
       × CellFits t (named_by seen old) seen n d.cell d.stopped
+      × VisitsLeave d.stopped (box_at (boxes_in seen old) n) (seen d.cell.processor)
 
   ended-at : (n : ℕ) → n < length old → (d : EndedCell P) × EndedAt n d
   unfolding box_at
   ended-at n lt =
-      let d = there cells n (rw ended.many lt) in (
+      let d = there cells n (rw ended.many lt) in
+      let fits = ended.each n d.0 d.1 in (
         d.0,
         (
           d.1,
           read-map (λ (c : NodeCell P). seen c.processor) left n d.0.cell no_box
               (at_map cell_of cells n d.0 d.1),
-          ended.each n d.0 d.1,
+          fits,
+          subst (λ p. VisitsLeave d.0.stopped p (seen d.0.cell.processor)) (box-named seen old n)
+              fits.box,
         ),
       )
 
-  -- all boxes are given back
-  pub given-ended : GivenBack (boxes_in seen old) (boxes_in seen left)
+  -- all boxes stay
+  pub stayed-ended : BoxesStay (boxes_in seen old) (boxes_in seen left)
   unfolding box_at
-  given-ended = record {
+  stayed-ended = record {
     count = length-map left (λ (c : NodeCell P). seen c.processor) ∙ (left-count
         ∙ sym (length-map old (λ (c : NodeCell P). seen c.processor)));
     each = λ n lt. let d = ended-at n (rw length-map at lt) in rw d.1.1 record {
-      born = d.1.2.box.born;
-      unborn = λ none. inl (d.1.2.box.unborn none);
+      born = d.1.3.born;
+      blank = d.1.3.unborn;
     };
   }
 
+  pub given-ended : GivenBack (boxes_in seen old) (boxes_in seen left)
+  given-ended = stayed-given _ _ stayed-ended
+
   -- the run was stopped at a node
-  pub stopped-ended : (n : ℕ) (s : StopCause) → IsStoppedAt cells n s
-      → StopsAt n s (boxes_in seen old) (boxes_in seen left)
-  unfolding box_at
-  stopped-ended n s h =
-      let lt : n < length old = rw ended.many at h.in_range in
-      let d = ended-at n lt in
-      let is = h.stopped d.0 d.1.0 in record {
-        in_range = rw (length-map, left-count) lt;
-        stop = rw d.1.1 (subst (λ o. LiesAs seen t o d.0.cell) is d.1.2.lies).holds;
-        growth = rw d.1.1 (subst (λ o. GrowthStays o (named_by seen old n)
-            (seen d.0.cell.processor)) is d.1.2.box.growth);
-      }
+  module _ (n : ℕ) (s : StopCause) (h : IsStoppedAt cells n s) where
+    stopped-within : n < length (boxes_in seen left)
+    stopped-within = rw (length-map, left-count) (rw ended.many at h.in_range)
+
+    stopped-cell : (d : EndedCell P) × EndedAt n d
+    stopped-cell = ended-at n (rw ended.many at h.in_range)
+
+    stopped-is : stopped-cell.0.stopped ≡ Some s
+    stopped-is = h.stopped stopped-cell.0 stopped-cell.1.0
+
+    -- by what its cell keeps
+    stopped-holds : StopHolds seen s stopped-cell.0.cell
+    stopped-holds = lies-stop seen t s stopped-cell.0.cell
+        (subst (λ o. LiesAs seen t o stopped-cell.0.cell) stopped-is stopped-cell.1.2.lies)
+
+    stopped-growth : GrowthStays (Some s) (box_at (boxes_in seen old) n)
+        (box_at (boxes_in seen left) n)
+    unfolding box_at
+    stopped-growth = rw stopped-cell.1.1
+        (subst (λ o. GrowthStays o (box_at (boxes_in seen old) n)
+        (seen stopped-cell.0.cell.processor)) stopped-is stopped-cell.1.3.growth)
+
+  -- the growth that has a flaw over the wires that its node knows has it over all
+  module _ (n : ℕ) (f : GrowthFlaw) (h : IsStoppedAt cells n (cause.Flaw f)) (b : Begun)
+      (begins : BeginsAs seen t.sizes.wires old b) where
+    abbrev at : NodeCell P
+    at = (stopped-cell n (cause.Flaw f) h).0.cell
+
+    fits : CellFits t (named_by seen old) seen n at (stopped-cell n (cause.Flaw f) h).0.stopped
+    fits = (stopped-cell n (cause.Flaw f) h).1.2
+
+    flaw : KeepsFlaw seen f at
+    flaw = stopped-holds n (cause.Flaw f) h
+
+    reserve : reserve_form at.reserve ≡ record {
+      rank = rank_at b.ranks n;
+      nodes = length b.ranks;
+      left = bare_left;
+      next_edge = 0;
+    }
+    reserve = let c = there old n (rw ended.many at h.in_range) in
+        fits.reserve ∙ (ap (λ m. m.reserve) (named-themselves seen old n c.0 c.1)
+        ∙ bare-reserve b.ranks b.boxes n c.0.reserve
+        (subst (λ r. IsNewReserve b.ranks r b.boxes n c.0.reserve) begins.bare
+        (begins.reserves n c.0 c.1)) begins.one_each)
+
+    same : TakeSamePorts (wires_known at) b.wires at.seat.node
+    same = known-take-same t at b.ranks b.wires [] begins.graph fits.seat flaw.ports
+        (rw (begins.wires_are, fits.number) fits.places.numbers)
+
+    over-all : growth_flaw b.ranks b.wires bare_left n flaw.growth ≡ Some f
+    over-all = growth-flaw-is b.ranks b.wires bare_left n flaw.growth
+        ∙ (sym (bare-flaw (rank_at b.ranks n) (length b.ranks) (wires_known at) b.wires n
+        flaw.growth (subst (TakeSamePorts (wires_known at) b.wires) fits.number same))
+        ∙ ((λ j. flaw_over (sym reserve j).rank (sym reserve j).nodes (wires_known at)
+        (sym reserve j).left (sym fits.number j) flaw.growth) ∙ flaw.flawed))
+
+    pub bad-ended : IsBadGrowth b.ranks b.wires b.reserves [] (boxes_in seen left) n f
+    unfolding box_at
+    bad-ended = let box = (stopped-cell n (cause.Flaw f) h).1.1 in record {
+      in_range = stopped-within n (cause.Flaw f) h;
+      growth = flaw.growth;
+      kept = rw box flaw.kept;
+      may_grow = rw box flaw.may_grow;
+      flawed = let same_wires : grown_wires b.wires [] ≡ b.wires = rw append-nil refl in
+          subst (λ (x : List Wire × List Reserve). growth_flaw b.ranks x.0
+          (left_of x.1 (boxes_in seen left) [] n) n flaw.growth ≡ Some f)
+          (λ j. (sym same_wires j, sym begins.bare j)) over-all;
+    }
+
+  -- the end of a run that was stopped at a node
+  module _ (b : Begun) (begins : BeginsAs seen t.sizes.wires old b)
+      (starting : AreStarting [] (boxes_in seen old)) where
+    pub stopped-end : (n : ℕ) (s : StopCause) → IsStoppedAt cells n s → (e : ExecEnd)
+        → IsEndOf (nodes_end.Stopped n s) e → ExecEndHolds e b (boxes_in seen left)
+    stopped-end n (cause.Fault f) h e i =
+        fault-ends seen b t.sizes.wires old begins starting (boxes_in seen left) given-ended n f e
+        record {
+          in_range = stopped-within n (cause.Fault f) h;
+          stop = rw (stopped-cell n (cause.Fault f) h).1.1 (stopped-holds n (cause.Fault f) h);
+          growth = stopped-growth n (cause.Fault f) h;
+        } i
+    stopped-end n (cause.Flaw f) h e i =
+        rw i (bad-growth seen b t.sizes.wires old begins starting (boxes_in seen left) given-ended
+        n f (bad-ended n f h b begins) (stopped-growth n (cause.Flaw f) h))
+    stopped-end n cause.Memory h e i = rw i tt
 
   -- nothing stopped it
   module _ (unstopped : AreUnstopped (length cells) cells) where
@@ -234,62 +360,68 @@ module _ {P : Type 0} (seen : P → BoxPicture) (t : Identity) (old : List (Node
     unfolding box_at
     growths-ended n lt =
         let d = ended-at n (rw length-map at lt) in
-        rw d.1.1 (subst (λ o. GrowthStays o (named_by seen old n)
-        (seen d.0.cell.processor)) (none-at n d.0 d.1.0) d.1.2.box.growth)
-
-    own-cell : (n : ℕ) → n < length old → (d : EndedCell P) → EndedAt n d → IsCellOf seen t n d.cell
-    unfolding box_at
-    own-cell n lt d h =
-        let stored : IsStored seen t d.cell =
-        subst (λ o. LiesAs seen t o d.cell) (none-at n d h.0) h.2.lies in
-        record {
-          between = record {
-            stored = stored;
-            born = λ unborn.
-                let born = all-born seen t old all n (rw length-map lt) in
-                let kept : AwaitsBirth seen t d.cell =
-                subst (λ z. StoredAs seen t z d.cell) unborn stored in
-                not-blank (seen d.cell.processor).spec
-                (rw (h.2.box.born born).same.spec born) kept.blank;
-          };
-          number = sym h.2.seat.number ∙ h.2.number;
-          edges = h.2.edges;
-        }
+        rw d.1.1 (subst (λ o. GrowthStays o (box_at (boxes_in seen old) n)
+        (seen d.0.cell.processor)) (none-at n d.0 d.1.0) d.1.3.growth)
 
     -- the cells are those of all nodes
-    pub cells-ended : AreCells seen t left
-    cells-ended = record {
-      count = left-count ∙ all.count;
-      graph = rw left-count all.graph;
-      each = λ n c e.
+    module _ (starting : AreStarting [] (boxes_in seen old)) where
+      abbrev graph : CellGraph
+      graph = own_graph t.sizes.wires left
+
+      own-stored : (n : ℕ) (d : EndedCell P) → EndedAt n d → IsStored seen t d.cell
+      own-stored n d h = subst (λ o. LiesAs seen t o d.cell) (none-at n d h.0) h.2.lies
+
+      own-born : (n : ℕ) → n < length old → (d : EndedCell P) → EndedAt n d → IsUnborn d.cell → ⊥
+      unfolding box_at
+      own-born n lt d h unborn =
+          let born = (starting n (rw length-map lt)).loaded in
+          let kept : AwaitsBirth seen t d.cell =
+          subst (λ z. StoredAs seen t z d.cell) unborn (own-stored n d h) in
+          not-blank (seen d.cell.processor).spec (rw (h.3.born born).same.spec born) kept.blank
+
+      -- what holds of each cell that was left holds of those
+      each-left : (Q : ℕ → NodeCell P → Type 0)
+          → ((n : ℕ) → n < length old → (d : EndedCell P) → EndedAt n d → Q n d.cell) → (n : ℕ)
+          (c : NodeCell P) → get_elem? left n ≡ some c → Q n c
+      each-left Q each n c e =
           let lt : n < length old = rw left-count at (below left n c e) in
           let d = ended-at n lt in
-          subst (IsCellOf seen t n)
-          (some-injective _ _ (sym (at_map cell_of cells n d.0 d.1.0) ∙ e))
-          (own-cell n lt d.0 d.1);
-    }
+          subst (Q n) (some-injective _ _ (sym (at_map cell_of cells n d.0 d.1.0) ∙ e))
+          (each n lt d.0 d.1)
+
+      pub cells-ended : AreOwnCells seen t left
+      cells-ended = record {
+        count = left-count ∙ all.count;
+        graph = rw left-count all.graph;
+        each = each-left (IsCellOf seen t graph) (λ n lt d h. record {
+          stored = own-stored n d h;
+          number = sym h.2.seat.number ∙ h.2.number;
+          places = λ born. own-places t.sizes.wires left n d.cell (at_map cell_of cells n d h.0)
+              h.2.places;
+        });
+        joined = λ e n p c has at. each-left (λ n c. IsUnborn c → ⊥) own-born n c at;
+      }
 
 -- ---- the end of the run
 
 -- an end of what workers left is an end of the whole run
-pub later-end : (x : NodesEnd) (wires : List Wire) (a b c : List BoxPicture) → AreAllBorn b
-    → GivenBack a b → GivenBack b c → GrowthsStay a b → CellsEndHolds x wires b c
-    → CellsEndHolds x wires a c
-later-end nodes_end.Done wires a b c born h k stay e = (e.0, growths-both a b c born h k stay e.1)
-later-end (nodes_end.Stuck report n) wires a b c born h k stay e =
-    (e.0, growths-both a b c born h k stay e.1)
-later-end (nodes_end.Stopped n s) wires a b c born h k stay e =
-    stops-both a b c born h k stay n s e
+pub later-end : (x : NodesEnd) (wires : List Wire) (a b c : List BoxPicture) → BoxesStay a b
+    → BoxesStay b c → GrowthsStay a b → CellsEndHolds x wires b c → CellsEndHolds x wires a c
+later-end nodes_end.Done wires a b c h k stay e = (e.0, growths-both a b c h k stay e.1)
+later-end (nodes_end.Stuck report n) wires a b c h k stay e =
+    (e.0, growths-both a b c h k stay e.1)
+later-end (nodes_end.Stopped n s) wires a b c h k stay e = stops-both a b c h k stay n s e
 
 module _ {P : Type 0} (seen : P → BoxPicture) (t : Identity) (old : List (NodeCell P))
-    (cells : List (EndedCell P)) (all : AreCells seen t old)
+    (cells : List (EndedCell P)) (all : AreOwnCells seen t old)
     (ended : AreEnded seen t (named_by seen old) (length old) cells)
-    (moved : List (NodeCell P)) (is : moved ≡ map cell_of cells) where
+    (moved : List (NodeCell P)) (is : moved ≡ map cell_of cells)
+    (starting : AreStarting [] (boxes_in seen old)) where
   -- where the run was stopped at no node the cells are those of all
   pub unstopped-cells : (stop : Option (ℕ × StopCause))
-      → IfNone stop (AreUnstopped (length cells) cells) → IfNone stop (AreCells seen t moved)
+      → IfNone stop (AreUnstopped (length cells) cells) → IfNone stop (AreOwnCells seen t moved)
   unstopped-cells (Some at) h = tt
-  unstopped-cells None h = rw is (cells-ended seen t old cells all ended h)
+  unstopped-cells None h = rw is (cells-ended seen t old cells all ended h starting)
 
   pub stops-within : (stop : Option (ℕ × StopCause))
       → IfSome stop (λ at. IsStoppedAt cells at.0 at.1)
@@ -298,26 +430,36 @@ module _ {P : Type 0} (seen : P → BoxPicture) (t : Identity) (old : List (Node
   stops-within None h = tt
 
   -- the end of the run, whether it was stopped or not
-  pub run-ended : (wires : List Wire) (after : List (NodeCell P)) (x : NodesEnd)
-      (stop : Option (ℕ × StopCause)) → IfSome stop (λ at. IsStoppedAt cells at.0 at.1)
-      → IfNone stop (AreUnstopped (length cells) cells)
-      → IfSome stop (λ at. (x ≡ nodes_end.Stopped at.0 at.1) × (after ≡ moved))
-      → IfNone stop (GivenBack (boxes_in seen moved) (boxes_in seen after))
-      → IfNone stop (CellsEndHolds x wires (boxes_in seen moved) (boxes_in seen after))
-      → GivenBack (boxes_in seen old) (boxes_in seen after)
-      × CellsEndHolds x wires (boxes_in seen old) (boxes_in seen after)
-  run-ended wires after x (Some at) found missing stopped back e = rw (stopped.0, stopped.1, is) (
-    given-ended seen t old cells all ended,
-    stopped-ended seen t old cells all ended at.0 at.1 found,
-  )
-  run-ended wires after x None found missing stopped back e =
-      let given = given-ended seen t old cells all ended in
-      let rest = subst (λ l. GivenBack (boxes_in seen l) (boxes_in seen after)) is back in (
-        given-both _ _ _ given rest,
-        later-end x wires _ _ _ (all-born seen t _ (cells-ended seen t old cells all ended missing))
-            given rest (growths-ended seen t old cells all ended missing)
-            (subst (λ l. CellsEndHolds x wires (boxes_in seen l) (boxes_in seen after)) is e),
-      )
+  module _ (after : List (NodeCell P)) (x : NodesEnd) where
+    pub run-back : (stop : Option (ℕ × StopCause))
+        → IfSome stop (λ at. (x ≡ nodes_end.Stopped at.0 at.1) × (after ≡ moved))
+        → IfNone stop (BoxesStay (boxes_in seen moved) (boxes_in seen after))
+        → GivenBack (boxes_in seen old) (boxes_in seen after)
+    run-back (Some at) stopped back = rw (stopped.1, is) (given-ended seen t old cells all ended)
+    run-back None stopped back = stayed-given _ _ (stayed-both _ _ _
+        (stayed-ended seen t old cells all ended)
+        (subst (λ l. BoxesStay (boxes_in seen l) (boxes_in seen after)) is back))
+
+    pub run-ended : (b : Begun) → BeginsAs seen t.sizes.wires old b
+        → (stop : Option (ℕ × StopCause))
+        → IfSome stop (λ at. IsStoppedAt cells at.0 at.1)
+        → IfNone stop (AreUnstopped (length cells) cells)
+        → IfSome stop (λ at. (x ≡ nodes_end.Stopped at.0 at.1) × (after ≡ moved))
+        → IfNone stop (BoxesStay (boxes_in seen moved) (boxes_in seen after))
+        → IfNone stop (CellsEndHolds x t.sizes.wires (boxes_in seen moved) (boxes_in seen after))
+        → (e : ExecEnd) → IsEndOf x e → ExecEndHolds e b (boxes_in seen after)
+    run-ended b begins (Some at) found missing stopped back holds e i =
+        rw (stopped.1, is) (stopped-end seen t old cells all ended b begins starting at.0 at.1 found
+        e (subst (λ z. IsEndOf z e) stopped.0 i))
+    run-ended b begins None found missing stopped back holds e i =
+        let stay = stayed-ended seen t old cells all ended in
+        let rest = subst (λ l. BoxesStay (boxes_in seen l) (boxes_in seen after)) is back in
+        cells-end seen b t.sizes.wires old begins starting (boxes_in seen after)
+        (run-back None stopped back) x e
+        (later-end x t.sizes.wires _ _ _ stay rest
+        (growths-ended seen t old cells all ended missing)
+        (subst (λ l. CellsEndHolds x t.sizes.wires (boxes_in seen l) (boxes_in seen after)) is
+        holds)) i
 
 -- as many cells are left as there were
 pub same-count : {P : Type 0} (seen : P → BoxPicture) (old after : List (NodeCell P))
@@ -329,7 +471,7 @@ same-count {P} seen old after h = sym (length-map after (λ (c : NodeCell P). se
 
 module _ {P : Type 0} (seen : P → BoxPicture) (workers : ℕ) (c : Cells P)
     (u : AreUnrun seen workers c) where
-  pub unrun-cells : AreCells seen (identity_of c.table) c.cells.items
+  pub unrun-cells : AreOwnCells seen (identity_of c.table) c.cells.items
   unrun-cells = new-cells seen u.boxes u.wires [] workers c u.graph refl u.new
 
   pub unrun-runnable : (queued : ℕ) → 1 ≤ workers → workers ≤ 16 → 0 < queued

@@ -1,9 +1,7 @@
 -- The state of a run, as data: a cell for each node, and the graph's wires and edges.
 use Rattle.chunk_data.specs.Places.{Changes}
-use Rattle.pipeline_exec.specs.Prelude.{Action, Acts, AreEdgesOf, BoxPicture, Cell, CellPicture, DueCall, EdgeState, ExecutorState, Flags, FollowsKept, HasEdge, HasInputWire, HasOutputWire, Input, Inputs, IsBorn, IsGraph, IsPort, IsRunning, IsSound, KeepsBox, KeepsFault, MayCall, NodeFault, NodeMark, Output, Outputs, Port, QuietBut, Reserve, RoundPorts, Running, Scheduled, Side, StaysOrActs, Table, TakesFirstAction, ViewKnows, Wake, Wire, WorkFault, action_port, after_action, after_see, cell_at, edge_at, input_count, is_reserved, is_told, new_edge, new_mark, new_picture, no_cell, output_count, peer, port_edge, reserve_of, told_if, wire_at}
+use Rattle.pipeline_exec.specs.Prelude.{Action, AreEdgesOf, BoxPicture, Cell, CellPicture, DueCall, EdgeState, ExecutorState, Flags, FollowsKept, HasEdge, Input, Inputs, IsBorn, IsGraph, IsPort, IsRunning, IsSound, KeepsBox, KeepsFault, MayCall, NodeFault, NodeMark, Output, Outputs, Port, QuietBut, Reserve, RoundPorts, Running, Side, StaysOrActs, Table, TakesFirstAction, ViewKnows, Wire, WorkFault, action_port, after_action, after_see, cell_at, edge_at, input_count, is_reserved, is_told, new_edge, new_mark, new_picture, no_cell, output_count, peer, port_edge, reserve_of, told_if, wire_at}
 use Rattle.std.specs.Prelude.{Bool, IfSome, List, None, Option, Some, [], false, length, map, slice_index_or, true, ℕ, ⊤, ◌&&◌, ◌+◌, ◌<◌, ◌==◌, ◌∷◌, ◌≡◌, ◌≤◌}
-use Rattle.proc_api.specs.declared.status.Wake.TheVariants as wake
-use Rattle.exec_laws.specs.declared.edges.DueCall.TheVariants as call
 use Rattle.exec_laws.specs.declared.edges.NodeStatus.TheVariants as node
 
 -- ---- cells
@@ -99,16 +97,6 @@ port_on Outputs k = Output k
 abbrev pub port_count : List Wire → ℕ → Side → ℕ
 port_count wires n Inputs = input_count wires n
 port_count wires n Outputs = output_count wires n
-
--- the wire has this port of the node at one of its ends
-abbrev pub is_port_end : Wire → ℕ → Port → Bool
-is_port_end w n (Input i) = (w.to == n) && (w.input == i)
-is_port_end w n (Output o) = (w.from == n) && (w.out == o)
-
--- a wire has the port of the node at one of its ends
-abbrev pub HasWire : List Wire → ℕ → Port → Type 0
-HasWire wires n (Input i) = HasInputWire wires n i
-HasWire wires n (Output o) = HasOutputWire wires n o
 
 -- the first k numbers of a list of edges
 pub record AreFirstEdges (wires : List Wire) (n k : ℕ) (side : Side)
@@ -258,9 +246,3 @@ pub record Each {A : Type 0} (R : A → A → Type 0) (xs ys : List A) : Type 0 
   pub len : length ys ≡ length xs
   pub at : (n : ℕ) (past : A) → n < length xs
       → R (slice_index_or xs n past) (slice_index_or ys n past)
-
--- a call of `schedule` that answers no fault
-pub record WakesBox (a : Wake) (p q : BoxPicture) : Type 0 where
-  pub acts : Acts p q
-  pub answer : q.notes.answer ≡ Some (Scheduled a)
-  pub not_acted : q.notes.acted ≡ false

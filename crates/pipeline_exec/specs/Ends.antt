@@ -1,6 +1,6 @@
 -- The ends of a run.
 use Rattle.pipeline_exec.specs.Prelude.{AreAllBorn, AreBirths, Birth, BoxPicture, ExecEnd, GrowthFlaw, IsBadGrowth, IsDone, IsFault, IsGraph, IsStuck, Reserve, SameBox, Wire, WorkFault, box_at, grown_ranks, grown_wires}
-use Rattle.std.specs.Prelude.{IsTrue, List, None, [], length, ℕ, ⊤, ◌≡◌, ◌≢◌}
+use Rattle.std.specs.Prelude.{IsTrue, List, None, [], length, ℕ, ⊤, ◌<◌, ◌≡◌, ◌≢◌, ◌⊎◌}
 use Rattle.proc_api.specs.Reserves.{AreReserves, AreStarting}
 use Rattle.proc_api.specs.declared.status.WorkFault.TheVariants as fault
 use Rattle.pipeline_exec.specs.declared.run.ExecEnd.TheVariants as end
@@ -58,6 +58,17 @@ ExecEndHolds (end.Stuck report node) b boxes =
 ExecEndHolds (end.Fault node f) b boxes = HasGrown b boxes (λ wires. IsFault boxes node f)
 ExecEndHolds (end.BadGrowth node f) b boxes = EndsBadly b boxes node f
 ExecEndHolds end.Memory b boxes = ⊤
+
+-- All boxes are lawful, and none keeps, as it is given back, a fault or a growth that has a flaw
+-- over the graph before it.
+pub record RunsWell (b : Begun) (after : List BoxPicture) : Type 0 where
+  pub lawful : (n : ℕ) → n < length b.boxes → IsTrue (box_at b.boxes n).lawful
+  pub faultless : (n : ℕ) → n < length b.boxes → (box_at after n).notes.fault ≡ None
+  pub unflawed : (n : ℕ) (f : GrowthFlaw) → EndsBadly b after n f → ⊥
+
+-- the run is done, or there was no memory
+abbrev pub IsDoneOrMemory : ExecEnd → Type 0
+IsDoneOrMemory e = (e ≡ end.Done) ⊎ (e ≡ end.Memory)
 
 -- a fault but want of memory ends the run
 abbrev pub IsFaultEnd : ExecEnd → ℕ → WorkFault → Type 0

@@ -1,5 +1,4 @@
 pub mod Prelude
-pub mod Resting
 pub mod Cells
 pub mod Ends
 pub mod Growing

@@ -1,10 +1,11 @@
 -- A run by workers of a graph without reserves.
 use Rattle.exec_laws.specs.Prelude.{BoxPicture, Wire}
-use Rattle.node_cells.specs.NewCells.{AreNewCells, IsGraphOfNodes, sizes_of}
+use Rattle.node_cells.specs.NewCells.{AreNewCells, AreNewReserves, IsGraphOfNodes, sizes_of}
 use Rattle.node_cells.specs.declared.cell.NodeCell.{NodeCell}
 use Rattle.node_cells.specs.declared.new_cells.Cells.{Cells}
 use Rattle.node_cells.specs.declared.stop_cause.StopCause.{StopCause}
 use Rattle.node_cells.specs.declared.stop_cause.StopCause.TheVariants as cause
+use Rattle.node_ends.specs.CellLists.{boxes_in}
 use Rattle.node_ends.specs.declared.node_ends.NodesEnd.{NodesEnd}
 use Rattle.node_ends.specs.declared.node_ends.NodesEnd.TheVariants as nodes_end
 use Rattle.node_workers.specs.declared.named_cell.EndedCell.{EndedCell}
@@ -44,12 +45,15 @@ module _ {P : Type 0} where
     pub starting : AreStarting [] (map seen boxes)
     pub new : AreNewCells seen (sizes_of (length boxes) wires [] workers) boxes c
 
--- a graph without reserves before its run, by its wires and what is seen of its boxes
-pub record BeginsAs (wires : List Wire) (boxes : List BoxPicture) (b : Begun) : Type 0 where
+-- a graph without reserves before its run, by its wires and its nodes' cells
+pub record BeginsAs {P : Type 0} (seen : P → BoxPicture) (wires : List Wire)
+    (cells : List (NodeCell P)) (b : Begun) : Type 0 where
   pub wires_are : b.wires ≡ wires
-  pub boxes_are : b.boxes ≡ boxes
+  pub boxes_are : b.boxes ≡ boxes_in seen cells
   pub bare : b.reserves ≡ []
   pub graph : IsGraph b.ranks b.wires []
+  pub one_each : length b.boxes ≡ length b.ranks
+  pub reserves : AreNewReserves b.ranks b.reserves b.boxes cells
 
 -- the end of the run of a graph, by that of its cells
 abbrev pub IsEndOf : NodesEnd → ExecEnd → Type 0
@@ -57,3 +61,4 @@ IsEndOf nodes_end.Done e = e ≡ end.Done
 IsEndOf (nodes_end.Stuck report n) e = e ≡ end.Stuck report n
 IsEndOf (nodes_end.Stopped n (cause.Fault f)) e = IsFaultEnd e n f
 IsEndOf (nodes_end.Stopped n (cause.Flaw f)) e = e ≡ end.BadGrowth n f
+IsEndOf (nodes_end.Stopped n cause.Memory) e = e ≡ end.Memory

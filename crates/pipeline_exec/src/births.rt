@@ -12,12 +12,13 @@ ghost use Rattle.pipeline_exec.specs.Growing.{AreFree, ArePortsAt, Avoids, Bears
 
 use crate::calls::NodeFault;
 use crate::cell::{Cell, RoundPorts, Side};
-use crate::executor_state::{ExecutorState, count_ports, edge_numbers, holds_node, ports_of_node};
-use crate::growth::{is_unborn, reserve_of, unborn_of};
+use crate::executor_state::{ExecutorState, count_ports, edge_numbers, ports_of_node};
+use crate::growth::{is_unborn, unborn_of};
 use crate::rounds::mark_of;
 use chunk_data::{List, Memory};
 use exec_laws::{DueCall, EdgeState, GrowthFlaw, NodeStatus};
 use graph_checks::{GrownGraph, check_growth};
+use node_cells::{holds_node, reserve_of};
 use port_word::{Reserve, Wire};
 use proc_api::{GrowNode, Growth, Processor, WorkFault};
 use query_model::processor_spec::Spec;

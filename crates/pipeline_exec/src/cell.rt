@@ -1,15 +1,14 @@
-ghost use Rattle.std.specs.Prelude.{◌≡◌, ℕ, ◌<◌, true, false, length, None, IfOk, IfErr, OnOk};
-ghost use Rattle.port_word.specs.Names.{MaySee, IsAllFinished};
-ghost use Rattle.proc_api.specs.Names.{IsRunning, MaySchedule, MayWork, AllOutputsFinished};
-ghost use Rattle.exec_laws.specs.Names.{Acts, ActsCell, IsPort, KeepsFault, LeavesView, NodeTurns, StaysBox, port_edge, state_after};
+ghost use Rattle.std.specs.Prelude.{◌≡◌, true, length, None, IfErr, OnOk};
+ghost use Rattle.port_word.specs.Names.{MaySee};
+ghost use Rattle.exec_laws.specs.Names.{ActsCell, IsPort, KeepsFault, NodeTurns, StaysBox, port_edge};
 ghost use Rattle.exec_laws.specs.declared.edges.NodeStatus.TheVariants.{AtWork};
-ghost use Rattle.pipeline_exec.specs.Cells.{IsCalled, MayActOn, MayBeCalled, MayPrepare, SeesPort, WakesBox, cell_picture, port_on};
-ghost use Rattle.node_cells.specs.Turns.{call_after};
+ghost use Rattle.pipeline_exec.specs.Cells.{IsCalled, MayActOn, MayBeCalled, MayPrepare, SeesPort, cell_picture, port_on};
 
 use chunk_data::Chunk;
 use exec_laws::{DueCall, NodeMark, NodeStatus};
+use node_cells::{call_after, schedule_box, shut_finished_ports, state_after, work_box};
 use port_word::{Flags, Port, PortView};
-use proc_api::{Processor, Status, Wake, WorkFault, shut_down};
+use proc_api::{Processor, WorkFault};
 
 /// What the executor has of a node beside its processor: its view, its mark, and the numbers of the
 /// edges at its inputs and at its outputs.
@@ -79,53 +78,6 @@ pub(crate) fn prepare_cell<P: Processor>(cell: &mut Cell<P>)
     };
 }
 
-/// Where the processor has finished, leaves no port open. A lawful one leaves none itself.
-fn shut_finished_ports(status: Status, view: &mut PortView)
-    ensures { LeavesView status view.old view.new }
-{
-    if let Status::Finished = status {
-        if !is_all_finished(view) {
-            shut_down(view);
-        }
-    }
-}
-
-fn is_all_finished(view: &PortView) -> bool
-    ensures yes { result ≡ true → IsAllFinished view.now }
-    ensures denied { result ≡ false → IsAllFinished view.now → ⊥ }
-{
-    for i in 0..view.inputs() {
-        if !view.in_finished(i) {
-            return false;
-        }
-    }
-    are_outputs_finished(view)
-}
-
-fn are_outputs_finished(view: &PortView) -> bool
-    ensures yes { result ≡ true → AllOutputsFinished view.now }
-    ensures denied { result ≡ false → AllOutputsFinished view.now → ⊥ }
-{
-    for o in 0..view.outputs() {
-        if !view.out_finished(o) {
-            return false;
-        }
-    }
-    true
-}
-
-fn state_after(status: Status) -> NodeStatus
-    ensures { result ≡ state_after status }
-{
-    match status {
-        Status::NeedData | Status::PortFull => NodeStatus::Resting,
-        Status::Ready => NodeStatus::AtWork(DueCall::Work),
-        Status::ExpandPipeline => NodeStatus::AtWork(DueCall::Expand),
-        Status::Async => NodeStatus::AtWork(DueCall::Schedule),
-        Status::Finished => NodeStatus::Over,
-    }
-}
-
 /// The most steps of a fetch that a source makes in one round. A thread takes longer to start than
 /// a block takes to read.
 const FETCH_STEPS: usize = 64;
@@ -175,14 +127,14 @@ fn make_call<P: Processor>(cell: &mut Cell<P>, call: DueCall) -> Result<(), Work
     ensures fault { IfErr result (λ f. KeepsFault f (P.seen cell.new.processor)) }
 {
     match call {
-        DueCall::Work => match work(&mut cell.processor) {
+        DueCall::Work => match work_box(&mut cell.processor) {
             Ok(()) => {
                 cell.ports.mark.state = NodeStatus::Due;
                 Ok(())
             }
             Err(fault) => Err(fault),
         },
-        DueCall::Schedule => match schedule(&mut cell.processor) {
+        DueCall::Schedule => match schedule_box(&mut cell.processor) {
             Ok(wake) => {
                 cell.ports.mark.state = NodeStatus::AtWork(call_after(wake));
                 Ok(())
@@ -192,36 +144,4 @@ fn make_call<P: Processor>(cell: &mut Cell<P>, call: DueCall) -> Result<(), Work
         // The graph grows at the end of the round.
         DueCall::Expand => Ok(()),
     }
-}
-
-fn call_after(wake: Wake) -> DueCall
-    ensures { result ≡ call_after wake }
-{
-    match wake {
-        Wake::Ready => DueCall::Work,
-        Wake::Later => DueCall::Schedule,
-    }
-}
-
-fn work<P: Processor>(processor: &mut P) -> Result<(), WorkFault>
-    requires running { IsRunning (P.seen processor.old) }
-    requires ready { MayWork (P.seen processor.old).notes.answer }
-    requires once { (P.seen processor.old).notes.acted ≡ false }
-    ensures stays { StaysBox (P.seen processor.old) (P.seen processor.new) }
-    ensures growth { (P.seen processor.new).growth ≡ (P.seen processor.old).growth }
-    ensures ok { OnOk result (Acts (P.seen processor.old) (P.seen processor.new)) }
-    ensures fault { IfErr result (λ f. KeepsFault f (P.seen processor.new)) }
-{
-    processor.work()
-}
-
-fn schedule<P: Processor>(processor: &mut P) -> Result<Wake, WorkFault>
-    requires running { IsRunning (P.seen processor.old) }
-    requires fetching { MaySchedule (P.seen processor.old).notes.answer }
-    ensures stays { StaysBox (P.seen processor.old) (P.seen processor.new) }
-    ensures growth { (P.seen processor.new).growth ≡ (P.seen processor.old).growth }
-    ensures ok { IfOk result (λ wake. WakesBox wake (P.seen processor.old) (P.seen processor.new)) }
-    ensures fault { IfErr result (λ f. KeepsFault f (P.seen processor.new)) }
-{
-    processor.schedule()
 }

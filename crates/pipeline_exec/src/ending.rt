@@ -1,17 +1,11 @@
 ghost use Rattle.std.specs.Prelude.{◌≡◌, ℕ, ◌+◌, ◌<◌, ◌≤◌, ◌++◌, ◌∷◌, cond, true, false, length, IfSome, IfNone, vec_capacity, []};
-ghost use Rattle.port_word.specs.Names.{in_count, out_count, output_at, WaitsForData, WaitsForRoom};
-ghost use Rattle.proc_api.specs.Settled.{Rests};
 ghost use Rattle.exec_laws.specs.Names.{ContradictsStatus, MarkTells, SupportsStatus, boxes_of, cell_at, is_resting, stuck_from};
 ghost use Rattle.pipeline_exec.specs.Cells.{cell_picture, cells_of};
-ghost use Rattle.node_ends.specs.Resting.{HasNoOpenOutput};
-ghost use Rattle.node_ends.specs.Resting.{HasOpenOutput};
-ghost use Rattle.node_ends.specs.Resting.{is_wanting};
-ghost use Rattle.node_ends.specs.Resting.{has_room};
 
 use crate::cell::Cell;
 use exec_laws::{NodeStatus, StuckNode};
-use port_word::PortView;
-use proc_api::{Processor, Status};
+use node_ends::rests;
+use proc_api::Processor;
 
 /// The first node at rest whose view contradicts its last status.
 pub(crate) fn first_unlawful<P: Processor>(cells: &Vec<Cell<P>>) -> Option<usize>
@@ -47,79 +41,6 @@ fn supports_status<P: Processor>(cell: &Cell<P>) -> bool
         NodeStatus::Resting => rests(cell.ports.mark.last, &cell.ports.view),
         _ => true,
     }
-}
-
-/// Whether the view supports the last status.
-fn rests(last: Option<Status>, view: &PortView) -> bool
-    ensures yes { result ≡ true → Rests last view.now }
-    ensures denied { result ≡ false → Rests last view.now → ⊥ }
-{
-    match last {
-        Some(Status::NeedData) => waits_for_data(view),
-        Some(Status::PortFull) | None => waits_for_room(view),
-        _ => false,
-    }
-}
-
-fn waits_for_data(view: &PortView) -> bool
-    ensures yes { result ≡ true → WaitsForData view.now }
-    ensures denied { result ≡ false → WaitsForData view.now → ⊥ }
-{
-    for i in 0..view.inputs() {
-        if is_wanting(view, i) {
-            return true;
-        }
-    }
-    false
-}
-
-/// Whether the input is needed, empty and not finished.
-fn is_wanting(view: &PortView, i: usize) -> bool
-    requires { i < in_count view.now }
-    ensures { result ≡ is_wanting view.now i }
-{
-    let flags = view.input_flags(i);
-    flags.needed && !flags.has_data && !view.in_finished(i)
-}
-
-fn waits_for_room(view: &PortView) -> bool
-    ensures yes { result ≡ true → WaitsForRoom view.now }
-    ensures denied { result ≡ false → WaitsForRoom view.now → ⊥ }
-{
-    has_open_output(view) && has_no_room(view)
-}
-
-fn has_open_output(view: &PortView) -> bool
-    ensures yes { result ≡ true → HasOpenOutput view.now }
-    ensures denied { result ≡ false → HasOpenOutput view.now → ⊥ }
-{
-    for o in 0..view.outputs() {
-        if !view.out_finished(o) {
-            return true;
-        }
-    }
-    false
-}
-
-fn has_no_room(view: &PortView) -> bool
-    ensures yes { result ≡ true → HasNoOpenOutput view.now }
-    ensures denied { result ≡ false → HasNoOpenOutput view.now → ⊥ }
-{
-    for o in 0..view.outputs() {
-        if has_room(view, o) {
-            return false;
-        }
-    }
-    true
-}
-
-/// Whether the output is unfinished, needed and empty.
-fn has_room(view: &PortView, o: usize) -> bool
-    requires { o < out_count view.now }
-    ensures { result ≡ has_room (output_at view.now o) }
-{
-    let flags = view.output_flags(o);
-    !view.out_finished(o) && flags.needed && !flags.has_data
 }
 
 /// Lists the nodes at rest, in room that is there.

@@ -1,13 +1,13 @@
 ghost use Rattle.std.specs.Prelude.{◌≡◌, ◌<◌, ◌≤◌, [], length, map, IfOk, vec_capacity};
 ghost use Rattle.proc_api.specs.Names.{wire_at};
-ghost use Rattle.exec_laws.specs.Names.{HasEdge, HoldsGraph};
-ghost use Rattle.proc_api.specs.Reserves.{holds_node, is_reserved};
-ghost use Rattle.pipeline_exec.specs.Cells.{AreFirstEdges, AreFirstPorts, AreNewEdges, AreNewFrom, AreNewRoundPorts, FillsRoundCells, HasWire, is_port_end, port_count};
+ghost use Rattle.exec_laws.specs.Names.{HoldsGraph};
+ghost use Rattle.pipeline_exec.specs.Cells.{AreFirstEdges, AreFirstPorts, AreNewEdges, AreNewFrom, AreNewRoundPorts, FillsRoundCells, port_count};
 
 use crate::cell::{Cell, RoundPorts, Side, port_on};
 use chunk_data::{List, Memory};
 use exec_laws::{EdgeState, NodeMark, NodeStatus};
-use port_word::{Port, PortView, Reserve, Wire};
+use node_cells::{edge_at, is_reserved};
+use port_word::{PortView, Reserve, Wire};
 use std::alloc::Global;
 
 /// What the executor has of a graph: a cell for each node, the wires, and each wire's edge.
@@ -77,19 +77,6 @@ fn first_ports(
     Ok(ports)
 }
 
-fn is_reserved(reserves: &[Reserve], node: usize) -> bool
-    ensures { result ≡ is_reserved reserves.now node }
-{
-    reserves.iter().any(|r| holds_node(r, node))
-}
-
-pub(crate) fn holds_node(reserve: &Reserve, node: usize) -> bool
-    ensures { result ≡ holds_node node reserve.now }
-{
-    reserve.first_node as usize <= node
-        && node < reserve.first_node as usize + reserve.nodes as usize
-}
-
 pub(crate) fn ports_of_node(
     alloc: Global,
     node: usize,
@@ -130,29 +117,6 @@ pub(crate) fn edge_numbers(
         numbers.push(edge_at(wires, node, port_on(side, k)) as u32)?;
     }
     Ok(numbers)
-}
-
-fn is_end(wire: &Wire, n: usize, port: Port) -> bool
-    ensures { result ≡ is_port_end wire.now n port }
-{
-    match port {
-        Port::Input(i) => wire.to as usize == n && wire.input as usize == i,
-        Port::Output(o) => wire.from as usize == n && wire.out as usize == o,
-    }
-}
-
-/// The edge that ends at the port of the node.
-#[tactic(auto, unfolding(proc_api::specs::Settled::wire_at))]
-fn edge_at(wires: &[Wire], n: usize, port: Port) -> usize
-    requires { HasWire wires.now n port }
-    ensures { HasEdge wires.now n port result }
-{
-    for (e, wire) in wires.iter().enumerate() {
-        if is_end(wire, n, port) {
-            return e;
-        }
-    }
-    wires.len()
 }
 
 /// New edges, one for each wire.

@@ -1,6 +1,6 @@
 //! What is left of a node's reserve.
 ghost use Rattle.std.specs.Prelude.{◌≡◌, ◌+◌, ◌<◌, ◌≤◌, length, IfOk};
-ghost use Rattle.exec_laws.specs.Names.{cell_at, reserve_of};
+ghost use Rattle.exec_laws.specs.Names.{cell_at};
 ghost use Rattle.pipeline_exec.specs.Cells.{cells_of};
 ghost use Rattle.pipeline_exec.specs.Growing.{are_left, is_unborn_state, unborn_of};
 
@@ -8,30 +8,11 @@ use crate::cell::Cell;
 use crate::rounds::mark_of;
 use chunk_data::Memory;
 use exec_laws::{Blank, NodeStatus};
+use node_cells::reserve_of;
 use port_word::Reserve;
 use proc_api::Processor;
 use query_model::processor_spec::Kind;
 use std::alloc::Global;
-
-const NO_RESERVE: Reserve = Reserve {
-    node: 0,
-    first_node: 0,
-    nodes: 0,
-    first_edge: 0,
-    edges: 0,
-};
-
-/// The reserve of a node; one without nodes and edges where it has none.
-pub(crate) fn reserve_of(reserves: &[Reserve], n: usize) -> Reserve
-    ensures { result ≡ reserve_of reserves.now n }
-{
-    for reserve in reserves {
-        if reserve.node as usize == n {
-            return *reserve;
-        }
-    }
-    NO_RESERVE
-}
 
 /// For each node how many edges its reserve has.
 pub(crate) fn edges_left(

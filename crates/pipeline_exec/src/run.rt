@@ -2,7 +2,7 @@ ghost use Rattle.std.specs.Prelude.{◌≡◌, ◌≤◌, length, map, vec_capac
 ghost use Rattle.proc_api.specs.Reserves.{AreStarting};
 ghost use Rattle.exec_laws.specs.Ends.{GivenBack, IsNothingDue, boxes_of};
 ghost use Rattle.pipeline_exec.specs.Cells.{IsUnderWay, board_of, cells_of};
-ghost use Rattle.pipeline_exec.specs.Ends.{EndsSettled, ExecEndHolds, IsFaultEnd, IsStartingGraph, graph_of_boxes};
+ghost use Rattle.pipeline_exec.specs.Ends.{EndsSettled, IsDoneOrMemory, ExecEndHolds, IsFaultEnd, IsStartingGraph, RunsWell, graph_of_boxes};
 ghost use Rattle.pipeline_exec.specs.Growing.{GivesBoxes, IsNewState, are_left, begun};
 
 use crate::births::RoundEnd;
@@ -44,6 +44,7 @@ pub struct RunResult {
 }
 
 /// Runs a graph to its end, with at most so many workers.
+#[tactic(auto, using(crate::proofs::Completeness::lawful_ends_done))]
 pub fn run_graph<R: AllocGlobal + Threads + Wait + Sync>(
     rt: &R,
     graph: Graph,
@@ -56,6 +57,9 @@ pub fn run_graph<R: AllocGlobal + Threads + Wait + Sync>(
         (map (λ b. seen b) result.boxes.items) }
     ensures end { ExecEndHolds result.end (graph_of_boxes graph.ranks graph.wires graph.reserves
         (map (λ b. seen b) graph.boxes.items)) (map (λ b. seen b) result.boxes.items) }
+    ensures completes { RunsWell (graph_of_boxes graph.ranks graph.wires graph.reserves
+        (map (λ b. seen b) graph.boxes.items)) (map (λ b. seen b) result.boxes.items)
+        → IsDoneOrMemory result.end }
 {
     // Growth isn't on the port-driven workers yet.
     if graph.reserves.len() == 0 {

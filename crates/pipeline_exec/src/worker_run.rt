@@ -2,8 +2,8 @@
 ghost use Rattle.std.specs.Prelude.{◌≡◌, ◌<◌, ◌≤◌, [], IfNone, IfSome, None, Some, false, length, map, vec_capacity};
 ghost use Rattle.exec_laws.specs.Ends.{GivenBack};
 ghost use Rattle.exec_table.specs.Seats.{identity_of, sizes_in};
-ghost use Rattle.node_ends.specs.CellLists.{AreCells, IsEndRoomFor, boxes_in};
-ghost use Rattle.node_ends.specs.RunEnds.{NodesEndHolds as CellsEndHolds};
+ghost use Rattle.node_ends.specs.CellLists.{AreOwnCells, IsEndRoomFor, boxes_in};
+ghost use Rattle.node_ends.specs.RunEnds.{BoxesStay, NodesEndHolds as CellsEndHolds};
 ghost use Rattle.node_ends.specs.declared.node_ends.NodesEnd.TheVariants.{Stopped};
 ghost use Rattle.pipeline_exec.specs.Ends.{Begun, ExecEndHolds};
 ghost use Rattle.pipeline_exec.specs.WorkerRuns.{AreUnrun, AreUnstopped, BeginsAs, IsEndOf, IsStoppedAt, cell_of, processor_of};
@@ -34,7 +34,7 @@ pub(crate) fn run_new_cells<P: Processor, R: Threads + Wait + Sync>(
     requires room { length new.cells.items ≤ vec_capacity boxes.old }
     ensures back { GivenBack (boxes_in P.seen new.cells.items) (map P.seen boxes.new.items) }
     ensures end { (b : Begun)
-        → BeginsAs (sizes_in new.table).wires (boxes_in P.seen new.cells.items) b
+        → BeginsAs P.seen (sizes_in new.table).wires new.cells.items b
         → ExecEndHolds result b (map P.seen boxes.new.items) }
 {
     let Cells {
@@ -78,15 +78,22 @@ pub(crate) fn run_new_cells<P: Processor, R: Threads + Wait + Sync>(
     }
 }
 
+fn is_memory(cause: StopCause) -> bool {
+    match cause {
+        StopCause::Memory | StopCause::Fault(WorkFault::Memory) => true,
+        StopCause::Fault(_) | StopCause::Flaw(_) => false,
+    }
+}
+
 /// The cause for which the run was stopped, if it is looked for.
 fn cause_for(stopped: Option<StopCause>, only_memory: bool) -> Option<StopCause>
     ensures found { IfSome result (λ s. stopped ≡ Some s) }
     ensures missing { IfNone result (only_memory ≡ false → stopped ≡ None) }
 {
-    if only_memory && !matches!(stopped, Some(StopCause::Fault(WorkFault::Memory))) {
-        return None;
+    match stopped {
+        Some(cause) if only_memory && !is_memory(cause) => None,
+        Some(_) | None => stopped,
     }
-    stopped
 }
 
 /// The first node at which the run was stopped, or stopped for want of memory.
@@ -141,12 +148,12 @@ fn end_cells<P: Processor, R: Wait>(
 ) -> NodesEnd
     requires few { length cells.old.items ≤ 256 }
     requires in_range { IfSome stop (λ at. at.0 < length cells.old.items) }
-    requires cells { IfNone stop (AreCells P.seen (identity_of table.now) cells.old.items) }
+    requires cells { IfNone stop (AreOwnCells P.seen (identity_of table.now) cells.old.items) }
     requires room { IsEndRoomFor (identity_of table.now) (length cells.old.items) room }
     ensures stopped { IfSome stop (λ at.
         (result ≡ Stopped at.0 at.1) × (cells.new.items ≡ cells.old.items)) }
     ensures back { IfNone stop
-        (GivenBack (boxes_in P.seen cells.old.items) (boxes_in P.seen cells.new.items)) }
+        (BoxesStay (boxes_in P.seen cells.old.items) (boxes_in P.seen cells.new.items)) }
     ensures end { IfNone stop (CellsEndHolds result (sizes_in table.now).wires
         (boxes_in P.seen cells.old.items) (boxes_in P.seen cells.new.items)) }
 {
@@ -164,6 +171,7 @@ fn exec_end(end: NodesEnd) -> ExecEnd
         NodesEnd::Stuck(report, node) => ExecEnd::Stuck(report, node),
         NodesEnd::Stopped(node, StopCause::Fault(fault)) => fault_end(node, fault),
         NodesEnd::Stopped(node, StopCause::Flaw(flaw)) => ExecEnd::BadGrowth(node, flaw),
+        NodesEnd::Stopped(_, StopCause::Memory) => ExecEnd::Memory,
     }
 }
 
@@ -180,6 +188,7 @@ fn give_boxes<P: Processor>(cells: &mut Vec<NodeCell<P>>, boxes: &mut Vec<P>)
             mark: _,
             ports: _,
             seat: _,
+            reserve: _,
         } = cell;
         boxes.push_reserved(processor);
     }

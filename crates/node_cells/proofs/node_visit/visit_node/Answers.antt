@@ -43,3 +43,6 @@ returns-in-AtWork-Schedule-clause-visits g c = visits-as g.P.Processor.seen
     (identity_of c.args.table.now) c.args.queue.now _ c.args.cell.now c.resume.new.cell
     c.args.tasks.now c.resume.new.tasks (node.AtWork call.Schedule) (search rules)
     c.resume.ensures.resumes
+
+pub returns-in-AtWork-Expand-clause-offers : goal.returns-in-AtWork-Expand-clause-offers
+returns-in-AtWork-Expand-clause-offers g c = offers-none _ _

@@ -1,5 +1,5 @@
 use Rattle.node_cells.proofs.Imports.{MakesStep, None, ap, false, identity_of, is_waiting, refl, subst, true, ◌∙◌, ◌≡◌}
-use Rattle.node_cells.proofs.StayLaws.{number-ports}
+use Rattle.node_cells.proofs.StayLaws.{number-ports, wires-still}
 use Rattle.exec_table.proofs.Ends.{number-made}
 use Rattle.node_cells.proofs.RestLaws.{left-home, rested-due}
 use Rattle.exec_table.specs.Seats.{is_idle as says_idle}
@@ -31,16 +31,22 @@ returns-in-UpdatedAgain-clause-rests g c = rested-due g.P.Processor.seen (identi
 pub returns-in-Idle-clause-keeps : goal.returns-in-Idle-clause-keeps
 returns-in-Idle-clause-keeps g c = record {
   processor = refl;
+  reserve = refl;
   ports = number-ports c.args.cell.now.ports _ c.args.cell.now.seat c.token_out.new.seat
       (number-made c.rest.ensures.seat c.token_out.ensures
-      ∙ number-made c.requires.carried.prepared.holds.cell.seat c.rest.ensures);
+      ∙ number-made c.requires.carried.prepared.holds.cell.seat c.rest.ensures)
+      (λ e. wires-still c.rest.ensures.seat c.token_out.ensures (λ _. refl) e
+      ∙ wires-still c.requires.carried.prepared.holds.cell.seat c.rest.ensures (λ _. refl) e);
 }
 
 pub returns-in-UpdatedAgain-clause-keeps : goal.returns-in-UpdatedAgain-clause-keeps
 returns-in-UpdatedAgain-clause-keeps g c = record {
   processor = refl;
+  reserve = refl;
   ports = number-ports c.args.cell.now.ports _ c.args.cell.now.seat
       c.again-updated.new.seat
       (number-made c.rest.ensures.seat c.again-updated.ensures.makes
-      ∙ number-made c.requires.carried.prepared.holds.cell.seat c.rest.ensures);
+      ∙ number-made c.requires.carried.prepared.holds.cell.seat c.rest.ensures)
+      (λ e. wires-still c.rest.ensures.seat c.again-updated.ensures.makes (λ _. refl) e
+      ∙ wires-still c.requires.carried.prepared.holds.cell.seat c.rest.ensures (λ _. refl) e);
 }

@@ -15,4 +15,4 @@ returns-clause-stays g c = let p = c.prepare_box.ensures in
     (keeps-stays g.P.Processor.seen c.args.cell.now c.look_ports.new.cell
     c.look_ports.ensures.keeps)
     (turned-stays g.P.Processor.seen c.look_ports.new.cell c.prepare_box.new.cell p.turns p.growth
-    p.ports)
+    p.ports p.reserve)

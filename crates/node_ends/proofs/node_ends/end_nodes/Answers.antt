@@ -1,14 +1,16 @@
-use Rattle.node_ends.proofs.Imports.{arith, length, refl, ◌≡◌}
-use Rattle.node_ends.proofs.Reports.{empty-done, settled-ends}
+use Rattle.node_ends.proofs.Reports.{settled-ends}
 use Rattle.node_ends.proofs.node_ends.end_nodes.Goals as goal
 
-pub returns-then-len-eq0-clause-end : goal.returns-then-len-eq0-clause-end
-returns-then-len-eq0-clause-end g c =
-    let none : length c.args.cells.now.items ≡ 0 = omega arith in (
-      empty-done g.P.Processor.seen c.args.cells.now.items _ c.requires.cells.graph none,
-      λ n lt lawful. refl,
-    )
+pub settled_end-requires-clause-settled : goal.settled_end-requires-clause-settled
+settled_end-requires-clause-settled g c κs within = (
+  c.requires.cells.0,
+  c.in-Ok.ensures.settled c.requires.cells.0 c.requires.cells.1,
+)
 
 pub returns-in-Ok-clause-end : goal.returns-in-Ok-clause-end
-returns-in-Ok-clause-end g c = settled-ends c.settled_end.result _ _ _ c.settled_end.ensures
+returns-in-Ok-clause-end g c = λ graph all. settled-ends c.settled_end.result _ _ _
+    (c.settled_end.ensures graph (c.in-Ok.ensures.settled graph all))
     c.in-Ok.ensures.visited.growth
+
+pub returns-in-Ok-clause-quiet : goal.returns-in-Ok-clause-quiet
+returns-in-Ok-clause-quiet g c = λ _ graph all. c.in-Ok.ensures.settled graph all

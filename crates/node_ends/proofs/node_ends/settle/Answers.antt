@@ -6,7 +6,8 @@ use Rattle.node_ends.proofs.node_ends.settle.Goals as goal
 
 pub survey_cells-requires-clause-seats : goal.survey_cells-requires-clause-seats
 survey_cells-requires-clause-seats g c = all-seats g.P.Processor.seen
-    (identity_of c.args.table.now) c.loop.cells.items c.loop.invariant.visited.cells
+    (identity_of c.args.table.now) c.requires.cells.0 c.loop.cells.items
+    (c.loop.invariant.visited.cells c.requires.cells.0 c.requires.cells.1)
 
 pub returns-then-is_settled-clause-visited : goal.returns-then-is_settled-clause-visited
 returns-then-is_settled-clause-visited g c = surveyed-visited (identity_of c.args.table.now) _ _
@@ -16,15 +17,17 @@ pub returns-then-is_settled-clause-settled : goal.returns-then-is_settled-clause
 returns-then-is_settled-clause-settled g c =
     let visited = surveyed-visited (identity_of c.args.table.now) _ _ c.survey_cells.ensures.cells
     g.P.Processor.seen _ c.loop.invariant.visited in
-    settled-cells g.P.Processor.seen (identity_of c.args.table.now)
-    c.survey_cells.new.cells.items c.survey_cells.new.room.words.items visited.cells
+    λ graph all. settled-cells g.P.Processor.seen (identity_of c.args.table.now) graph
+    c.survey_cells.new.cells.items c.survey_cells.new.room.words.items (visited.cells graph all)
     (c.if-is_settled.ensures.rest refl) c.survey_cells.ensures.shown
-    (omega (arith, c.requires.some, visited.count))
     (ap (λ l. get_or l 0 0) (sym c.as_slice.ensures.value) ∙ c.if-is_settled.ensures.pending refl)
 
 pub visit_all-requires-clause-cells : goal.visit_all-requires-clause-cells
-visit_all-requires-clause-cells g c κs within = (surveyed-visited (identity_of c.args.table.now) _
-    _ c.survey_cells.ensures.cells g.P.Processor.seen _ c.loop.invariant.visited).cells
+visit_all-requires-clause-cells g c κs within = (
+  c.requires.cells.0,
+  (surveyed-visited (identity_of c.args.table.now) _ _ c.survey_cells.ensures.cells
+      g.P.Processor.seen _ c.loop.invariant.visited).cells c.requires.cells.0 c.requires.cells.1,
+)
 
 pub returns-in-Err-clause-stop : goal.returns-in-Err-clause-stop
 returns-in-Err-clause-stop g c = stopped-both g.P.Processor.seen (identity_of c.args.table.now)

@@ -4,20 +4,20 @@ use Rattle.task_queue.specs.Queues.{IsPassOf}
 use Rattle.task_queue.specs.Tasks.{OffersNumbers, offered_more}
 use Rattle.task_queue.specs.declared.tasks.WorkerTasks.{WorkerTasks}
 use Rattle.node_workers.proofs.run.offer_first.Goals as goal
-use Rattle.node_workers.proofs.run.offer_first.Goals.{else-eq, then-eq+then-is_empty}
+use Rattle.node_workers.proofs.run.offer_first.Goals.{else-eq, then-eq}
 
-pub loop-n-init : goal.loop-n-init
-loop-n-init g c = (c.requires.pass, offers-none _ _)
+pub loop-k-init : goal.loop-k-init
+loop-k-init g c = (c.requires.pass, offers-none _ _)
 
-pub loop-n-preserved : goal.loop-n-preserved
-loop-n-preserved g c = elim c.if-eq.branch [
-  | then-eq+then-is_empty w ↦ subst (λ (t : WorkerTasks).
+pub loop-k-preserved : goal.loop-k-preserved
+loop-k-preserved g c = elim c.if-eq.branch [
+  | then-eq w ↦ subst (λ (t : WorkerTasks).
       IsPassOf c.args.queue.now t.pass × OffersNumbers c.args.queue.now c.args.tasks.now t)
       (sym w.tasks-is) (
         w.offer.ensures.pass,
-        (_, offered_more c.loop-n.invariant.1.1 (inl w.offer.ensures.offered)),
+        (_, offered_more c.loop-k.invariant.1.1 (inl w.offer.ensures.offered)),
       )
   | else-eq w ↦ subst (λ (t : WorkerTasks).
       IsPassOf c.args.queue.now t.pass × OffersNumbers c.args.queue.now c.args.tasks.now t)
-      (sym w.tasks-is) c.loop-n.invariant
+      (sym w.tasks-is) c.loop-k.invariant
 ]

@@ -2,5 +2,5 @@ use Rattle.task_queue.specs.Queues.{IsPassOf}
 use Rattle.task_queue.specs.Tasks.{OffersNumbers}
 use Rattle.node_workers.proofs.run.offer_first.Given as goal
 
-abbrev pub invariant-loop-n : goal.invariant-loop-n
-invariant-loop-n g l = IsPassOf l.queue l.tasks.pass × OffersNumbers l.queue l.initial.tasks l.tasks
+abbrev pub invariant-loop-k : goal.invariant-loop-k
+invariant-loop-k g l = IsPassOf l.queue l.tasks.pass × OffersNumbers l.queue l.initial.tasks l.tasks

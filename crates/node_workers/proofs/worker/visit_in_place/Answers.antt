@@ -7,8 +7,8 @@ use Rattle.node_workers.proofs.worker.visit_in_place.Goals as goal
 pub claim-requires-clause-share : goal.claim-requires-clause-share
 claim-requires-clause-share g c κs lives = c.args.shelf.now.shared
 
-pub visit_slot-waits-requires-clause-lies : goal.visit_slot-waits-requires-clause-lies
-visit_slot-waits-requires-clause-lies g c κs lives = let took = c.claim.ensures.taken in record {
+pub visit_slot-end-requires-clause-lies : goal.visit_slot-end-requires-clause-lies
+visit_slot-end-requires-clause-lies g c κs lives = let took = c.claim.ensures.taken in record {
   value = took.value;
   fitting = took.fitting;
   first = ap (λ m. m.1) took.seat
@@ -18,7 +18,7 @@ visit_slot-waits-requires-clause-lies g c κs lives = let took = c.claim.ensures
 pub invariant_of-shelf : goal.invariant_of-shelf
 invariant_of-shelf g c =
     let was = c.args.shelf.now in let took = c.claim.ensures.taken.seat in
-    let visited = c.visit_slot-waits.ensures.place in let left = c.release.ensures.left in
+    let visited = c.visit_slot-end.ensures.place in let left = c.release.ensures.left in
     let id = c.release.ensures.same ∙ visited.table ∙ c.claim.ensures.same in record {
       slots = ap (λ m. m.1) left ∙ visited.others ∙ ap (λ m. rest m.1) took ∙ was.slots;
       once = λ m. let i = ap (λ t. once_below m t.slots) id in let o = was.once m in omega arith;

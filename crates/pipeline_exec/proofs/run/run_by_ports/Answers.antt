@@ -1,4 +1,4 @@
-use Rattle.pipeline_exec.proofs.Imports.{ap, map, subst, sym}
+use Rattle.pipeline_exec.proofs.Imports.{ap, length-map, map, subst, sym}
 use Rattle.core_laws.specs.declared.types.Sizes.{Sizes}
 use Rattle.exec_laws.specs.Ends.{GivenBack}
 use Rattle.pipeline_exec.proofs.WorkerEnds.{moved}
@@ -24,6 +24,8 @@ returns-in-Ok-into_cells-clause-end g c =
           c.in-Ok-into_cells.new.cells.items c.args.graph.boxes.items
           (sym c.in-Ok-into_cells.ensures.cells.processors));
       bare = c.requires.bare;
+      one_each = rw length-map c.args.graph.one_each;
+      reserves = c.in-Ok-into_cells.ensures.reserves;
       graph = subst (IsGraph c.args.graph.ranks c.args.graph.wires) c.requires.bare
           c.args.graph.well_formed;
     }

@@ -1,5 +1,6 @@
-use Rattle.pipeline_exec.proofs.Imports.{drop, reserve_of, ◌≡◌}
-use Rattle.pipeline_exec.proofs.growth.reserve_of.Given as goal
+use Rattle.std.proofs.Common.{drop, ◌≡◌}
+use Rattle.exec_laws.specs.Names.{reserve_of}
+use Rattle.node_cells.proofs.new_reserves.reserve_of.Given as goal
 
 abbrev pub invariant-loop-reserve : goal.invariant-loop-reserve
 invariant-loop-reserve l =

@@ -1,0 +1,65 @@
+-- Ports that a node gets have the wires of a growth.
+use Rattle.node_births.proofs.Imports.{Bool, GainsPorts, HasNewWire, Input, List, Output, Port, PortsPicture, Wire, arith, cases_lt, false, get_or_append_left, inl, inr, is_own_port, length, length-append, true, wire_at, ℕ, ◌+◌, ◌-◌, ◌≡◌, ◌⊎◌}
+use Rattle.node_births.proofs.GainLaws.{kept-wire}
+use Rattle.node_births.specs.TableEdges.{EdgeRange, HasWiresOf, longer_range}
+use Rattle.proc_api.specs.Names.{no_wire}
+use Rattle.std.proofs.Math.Seq.{get_or-append_right}
+
+-- a port with so many more of a side is one of those before, or one of these
+split-side : (consumer : Bool) (first : ℕ) (wires : List Wire) (n : ℕ) (c d : PortsPicture)
+    → GainsPorts consumer first wires n c d → (p : Port) → is_own_port d p
+    → is_own_port c p ⊎ HasNewWire first wires d p
+split-side true first wires n c d g (Input i) lt = grind (arith, cases_lt)
+split-side true first wires n c d g (Output o) lt = grind arith
+split-side false first wires n c d g (Input i) lt = grind arith
+split-side false first wires n c d g (Output o) lt = grind (arith, cases_lt)
+
+module _ (r : EdgeRange) (more : List Wire) (c : PortsPicture) (p : Port) where
+  -- a wire of a range is one of the longer one
+  wire-before : HasNewWire r.first r.wires c p
+      → HasNewWire (longer_range r more).first (longer_range r more).wires c p
+  unfolding wire_at
+  wire-before x = let same = get_or_append_left r.wires more no_wire x.place x.has_edge.in_range in
+      let len = length-append r.wires more in let lt = x.has_edge.in_range in record {
+        place = x.place;
+        has_edge = record {
+          in_range = omega (arith, lt, len);
+          at_port = rw same x.has_edge.at_port;
+        };
+        edge_is = x.edge_is;
+        wire_is = rw same x.wire_is;
+      }
+
+  -- and so is one of those behind it
+  wire-behind : HasNewWire (r.first + length r.wires) more c p
+      → HasNewWire (longer_range r more).first (longer_range r more).wires c p
+  unfolding wire_at
+  wire-behind x = let k = length r.wires + x.place in
+      let same = get_or-append_right r.wires more k no_wire (omega arith) in
+      let less : k - length r.wires ≡ x.place = omega arith in
+      let len = length-append r.wires more in let lt = x.has_edge.in_range in
+      let is = x.edge_is in record {
+        place = k;
+        has_edge = record {
+          in_range = omega (arith, lt, len);
+          at_port = rw (same, less) x.has_edge.at_port;
+        };
+        edge_is = omega (arith, is);
+        wire_is = rw (same, less) x.wire_is;
+      }
+
+-- the node has the wires of the graph and of its growths, with those of one more growth
+pub more-wires : (graph grown : EdgeRange) (more : List Wire) (consumer : Bool) (n : ℕ)
+    (c d : PortsPicture) → HasWiresOf graph grown c
+    → GainsPorts consumer (grown.first + length grown.wires) more n c d
+    → HasWiresOf graph (longer_range grown more) d
+more-wires graph grown more consumer n c d h g = record {
+  each = λ p own. elim (split-side consumer (grown.first + length grown.wires) more n c d g p own) [
+    | inl old ↦ elim (h.each p old) [
+      | inl a ↦ inl (kept-wire graph.first graph.wires c d g.gains p old a)
+      | inr b ↦ inr (wire-before grown more d p
+          (kept-wire grown.first grown.wires c d g.gains p old b))
+    ]
+    | inr new ↦ inr (wire-behind grown more d p new)
+  ];
+}

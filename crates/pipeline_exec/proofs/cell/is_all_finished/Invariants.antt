@@ -1,5 +1,0 @@
-use Rattle.pipeline_exec.proofs.Imports.{input_at, is_in_finished, true, ℕ, ◌<◌, ◌≡◌}
-use Rattle.pipeline_exec.proofs.cell.is_all_finished.Given as goal
-
-abbrev pub invariant-loop-i : goal.invariant-loop-i
-invariant-loop-i l = (j : ℕ) → j < l.i → is_in_finished (input_at l.view j).flags ≡ true

@@ -1,5 +1,0 @@
-use Rattle.pipeline_exec.proofs.Imports.{is_out_finished, output_at, true, ℕ, ◌<◌, ◌≡◌}
-use Rattle.pipeline_exec.proofs.ending.has_open_output.Given as goal
-
-abbrev pub invariant-loop-o : goal.invariant-loop-o
-invariant-loop-o l = (j : ℕ) → j < l.o → is_out_finished (output_at l.view j) ≡ true
