@@ -1,17 +1,12 @@
 -- Laws of loading and unloading boxes one after another.
-use Rattle.std.proofs.Common.{◌≡◌, ℕ, ◌+◌, ◌<◌, true, false, List, [], ◌∷◌, ◌++◌, map, length, length-append, get_or, set, drop, refl, ap, subst, ◌∙◌, sym, arith, inl, inr}
-use Rattle.plan_run.proofs.Imports.{Changes, Changes-map_set, All, All-from_get_or, All-get_or, All-head, All-tail, AreStarting, AreStill, GraphForm, IsStill, KeepsBehind, Kind, LoadsFirst, Spec, StartsAs, UnloadsFirst, append_assoc, box_at, cases_eq, cases_lt, drop-drop, ext_get_or, get_or-drop, get_or-map, get_or_append_left, get_or_default, is_reserved, kind_of, kinds_in, kinds_of, kinds_taken, length-map, one-more, spec_at}
+use Rattle.std.proofs.Common.{◌≡◌, ℕ, ◌+◌, ◌<◌, List, [], ◌∷◌, ◌++◌, map, length, length-append, get_or, set, drop, ap, subst, ◌∙◌, sym, arith, inl, inr}
+use Rattle.plan_run.proofs.Imports.{All, All-from_get_or, All-get_or, All-head, All-tail, AreStarting, AreStill, Changes, Changes-map_set, GraphForm, IsStill, KeepsBehind, Kind, LoadsFirst, Spec, UnloadsFirst, append_assoc, box_at, cases_eq, cases_lt, drop-drop, ext_get_or, get_or-drop, get_or-map, get_or_append_left, get_or_default, kind_of, kinds_in, kinds_of, kinds_taken, length-map, one-more, spec_at}
 use Rattle.query_model.specs.declared.processor_spec.Kind.TheVariants as kind
 use Rattle.query_model.specs.declared.processor_spec.Spec.TheVariants as spec
 use Rattle.proc_api.specs.Names.{BoxPicture, no_box, IsBlank, Loads, Unloads}
 
 pub still : (p : BoxPicture) → IsStill p p
-still p = record {
-  kind = refl;
-  lawful = refl;
-  files = refl;
-  counts = record { faults = refl; pendings = refl; pulled = refl };
-}
+still p = grind arith
 
 -- what holds at each place holds of all
 pub all-at : (P : BoxPicture → Type 0) (boxes : List BoxPicture)
@@ -45,30 +40,14 @@ pub none-more : (k : ℕ) (specs : List Spec) (before mid after : List BoxPictur
     → LoadsFirst k specs before mid → Changes no_box k (λ p q. q ≡ p) mid after
     → LoadsFirst k specs before after
 unfolding box_at
-none-more k specs before mid after f next = record {
-  count = next.len ∙ f.count;
-  loaded = λ n lt. subst (Loads (box_at before n) (spec_at specs n))
-      (sym (next.others n (λ e. omega (arith, lt, e)))) (f.loaded n lt);
-  others = λ n le. same n ∙ f.others n le;
-}
-  where
-    same : (n : ℕ) → box_at after n ≡ box_at mid n
-    same n = elim (cases_eq n k) [
-      | inl e ↦ subst (λ m. box_at after m ≡ box_at mid m) (sym e) next.here
-      | inr ne ↦ next.others n ne
-    ]
+none-more k specs before mid after f next = grind (arith, cases_eq)
 
 pub loads-still : (k : ℕ) (specs : List Spec) (before after : List BoxPicture)
     → LoadsFirst k specs before after → AreStill before after
 loads-still k specs before after f = record {
   count = f.count;
   each = λ n _. elim (cases_lt n k) [
-    | inl lt ↦ let l = f.loaded n lt in record {
-      kind = l.kind;
-      lawful = l.lawful;
-      files = l.files;
-      counts = l.counts;
-    }
+    | inl lt ↦ let l = f.loaded n lt in grind (arith, l)
     | inr le ↦ subst (IsStill (box_at before n)) (sym (f.others n le)) (still (box_at before n))
   ];
 }
@@ -77,25 +56,21 @@ loads-still k specs before after f = record {
 pub next-blank : (k : ℕ) (specs : List Spec) (before mid : List BoxPicture)
     → LoadsFirst k specs before mid → All IsBlank before → k < length before
     → IsBlank (box_at mid k)
-next-blank k specs before mid f all lt = subst IsBlank (sym (f.others k (omega arith)))
-    (at-all IsBlank before k lt all)
+next-blank k specs before mid f all lt =
+    rw (f.others k (omega arith)) (at-all IsBlank before k lt all)
 
 -- the next box is of the kind of the next spec
 pub next-kind : (k : ℕ) (specs : List Spec) (before mid : List BoxPicture) (s : Spec)
     → LoadsFirst k specs before mid
     → ((n : ℕ) → n < length specs → kind_of (spec_at specs n) ≡ (box_at before n).kind)
     → k < length specs → s ≡ spec_at specs k → kind_of s ≡ (box_at mid k).kind
-next-kind k specs before mid s f kinds lt here = ap kind_of here ∙ kinds k lt
-    ∙ ap (λ (p : BoxPicture). p.kind) (sym (f.others k (omega arith)))
+next-kind k specs before mid s f kinds lt here = grind arith
 
 -- the spec that is taken from the front of what is left
 pub next-spec : (specs rest : List Spec) (k : ℕ) (s : Spec) → rest ≡ drop k specs
     → s ≡ get_or rest 0 s → k < length specs → s ≡ spec_at specs k
 unfolding spec_at
-next-spec specs rest k s e read lt =
-    let place : k + 0 ≡ k = omega arith in
-    read ∙ ap (λ l. get_or l 0 s) e ∙ get_or-drop k specs 0 s ∙ ap (λ n. get_or specs n s) place
-    ∙ get_or_default specs k s spec.Collect lt
+next-spec specs rest k s e read lt = grind (arith, get_or-drop, get_or_default)
 
 pub next-rest : (specs rest after : List Spec) (k : ℕ) → rest ≡ drop k specs → after ≡ drop 1 rest
     → after ≡ drop (k + 1) specs
@@ -104,23 +79,12 @@ next-rest specs rest after k e step = step ∙ ap (drop 1) e ∙ drop-drop 1 k s
 -- ---- unloading
 
 pub none-unloaded : (boxes : List BoxPicture) → UnloadsFirst 0 boxes boxes
-none-unloaded boxes = record {
-  count = refl;
-  unloaded = λ n lt. absurd (omega (arith, lt));
-  others = λ n le. refl;
-}
+none-unloaded boxes = grind arith
 
 pub one-unloaded : (k : ℕ) (before mid after : List BoxPicture) → UnloadsFirst k before mid
     → Changes no_box k Unloads mid after → UnloadsFirst (k + 1) before after
 unfolding box_at
-one-unloaded k before mid after f next = record {
-  count = next.len ∙ f.count;
-  unloaded = one-more (λ n. Unloads (box_at before n) (box_at after n)) k
-      (λ n lt. subst (Unloads (box_at before n)) (sym (next.others n (λ e. omega (arith, lt, e))))
-      (f.unloaded n lt))
-      (subst (λ p. Unloads p (box_at after k)) (f.others k (omega arith)) next.here);
-  others = λ n le. next.others n (λ e. omega (arith, le, e)) ∙ f.others n (omega (arith, le));
-}
+one-unloaded k before mid after f next = grind (arith, cases_eq)
 
 pub unloaded-blank : (k : ℕ) (before after : List BoxPicture) → length before ≡ k
     → UnloadsFirst k before after → All IsBlank after
@@ -135,18 +99,8 @@ pub loaded-starting : (specs : List Spec) (form : GraphForm) (before after : Lis
     → LoadsFirst (length specs) specs before after → AreStarting form.reserves after
 unfolding box_at
 loaded-starting specs form before after ranks keeps blank f n lt =
-    let count = f.count in
-    let kept = keeps.kept n (omega (arith, lt, count, ranks)) in
-    elim (cases_lt n (length specs)) [
-      | inl less ↦
-          let first : is_reserved form.reserves n ≡ false = grind (arith, kept, less) in
-          subst (λ b. StartsAs b (box_at after n)) (sym first) (f.loaded n less).fresh
-      | inr past ↦
-          let behind : is_reserved form.reserves n ≡ true = grind (arith, kept, past) in
-          subst (λ b. StartsAs b (box_at after n)) (sym behind)
-          (subst IsBlank (sym (f.others n past))
-          (at-all IsBlank before n (omega (arith, lt, count)) blank))
-    ]
+    let kept = keeps.kept n in
+    grind (arith, kept, cases_lt, at-all)
 
 -- the kinds of the first boxes are those of the specs
 pub first-kinds : (specs : List Spec) (kept : List Kind) (boxes : List BoxPicture)
@@ -167,9 +121,7 @@ first-kinds specs kept boxes e n lt =
 
 pub boxes-count : (specs : List Spec) (kept : List Kind) (boxes : List BoxPicture)
     → kinds_in boxes ≡ kinds_taken specs kept → length boxes ≡ length specs + length kept
-boxes-count specs kept boxes e = sym (length-map boxes (λ (p : BoxPicture). p.kind))
-    ∙ ap (λ (l : List Kind). length l) e ∙ length-append (kinds_of specs) kept
-    ∙ ap (λ n. n + length kept) (length-map specs kind_of)
+boxes-count specs kept boxes e = grind (arith, length-map, length-append)
 
 -- boxes that keep what they are keep their kinds
 pub still-kinds : (before after : List BoxPicture) → AreStill before after
@@ -192,7 +144,7 @@ map-len f xs = length-map xs f
 
 pub in-map : {A : Type 0} (f : A → BoxPicture) (xs : List A) (i : ℕ) → i < length xs
     → i < length (map f xs)
-in-map f xs i lt = subst (λ n. i < n) (sym (map-len f xs)) lt
+in-map f xs i lt = grind (arith, map-len)
 
 pub front-all : {A : Type 0} (P : BoxPicture → Type 0) (f : A → BoxPicture) (xs : List A) (x : A)
     → x ≡ get_or xs 0 x → 0 < length xs → All P (map f xs) → P (f x)
@@ -209,10 +161,7 @@ rest-all P f (x ∷ xs) ys e all = subst (λ l. All P (map f l)) (sym e)
 pub one-over : {A : Type 0} (rack boxes rack' boxes' : List A) (b : A) → b ≡ get_or boxes 0 b
     → 0 < length boxes → rack' ≡ rack ++ b ∷ [] → boxes' ≡ drop 1 boxes
     → rack' ++ boxes' ≡ rack ++ boxes
-one-over rack [] rack' boxes' b read lt r e = absurd (omega (arith, lt))
-one-over rack (x ∷ boxes) rack' boxes' b read lt r e = ap (λ l. l ++ boxes') r
-    ∙ ap (λ l. (rack ++ b ∷ []) ++ l) e ∙ append_assoc rack (b ∷ []) boxes
-    ∙ ap (λ y. rack ++ y ∷ boxes) read
+one-over rack boxes rack' boxes' b read lt r e = grind (arith, append_assoc)
 
 -- one box alone was called, and is still the same
 pub still-at : {A : Type 0} (f : A → BoxPicture) (xs : List A) (n : ℕ) (x y : A) → n < length xs
@@ -221,12 +170,4 @@ unfolding box_at
 still-at f xs n x y lt read s =
     let next : Changes no_box n IsStill (map f xs) (map f (set xs n y)) =
     Changes-map_set f no_box n IsStill xs x y lt read s in
-    record {
-      count = next.len;
-      each = λ m _. elim (cases_eq m n) [
-        | inl e ↦ subst (λ k. IsStill (box_at (map f xs) k) (box_at (map f (set xs n y)) k)) (sym e)
-            next.here
-        | inr ne ↦ subst (IsStill (box_at (map f xs) m)) (sym (next.others m ne))
-            (still (box_at (map f xs) m))
-      ];
-    }
+    grind (arith, cases_eq, still)

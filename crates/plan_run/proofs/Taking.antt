@@ -1,6 +1,6 @@
 -- Laws of what is taken from a rack, and what is left.
-use Rattle.std.proofs.Common.{◌≡◌, ℕ, zero, suc, ◌+◌, ◌<◌, ◌≤◌, Bool, true, false, cond, List, [], ◌∷◌, ◌++◌, map, take, length, length-append, get_or, refl, ap, subst, ◌∙◌, sym, arith}
-use Rattle.plan_run.proofs.Imports.{All, All-cons, All-head, All-nil, All-tail, BoxPicture, HasStock, Kind, Spec, TakesOut, count_by, count_by-cons, eq-eqb, eqb-true, first_box_of, get_or-append-add, get_or-map, get_or_append_left, get_or_default, is_of, kind_of, kind_place, kinds_in, kinds_of, kinds_taken, left_after, length-map, map_push, same_kind, take_more, taken_for, without_first_box}
+use Rattle.std.proofs.Common.{ap₂, ◌≡◌, ℕ, zero, suc, ◌+◌, ◌<◌, ◌≤◌, Bool, true, false, cond, List, [], ◌∷◌, ◌++◌, map, take, length, length-append, get_or, refl, ap, subst, ◌∙◌, sym, arith}
+use Rattle.plan_run.proofs.Imports.{All, All-cons, All-head, All-nil, All-tail, BoxPicture, HasStock, Kind, Spec, TakesOut, count_by, count_by-cons, eq-eqb, eqb-true, first_box_of, get_or-append-add, get_or-map, get_or_append_left, get_or_default, is_of, kind_of, kind_place, kinds_in, kinds_taken, left_after, length-map, map_push, same_kind, take_more, taken_for, without_first_box}
 use Rattle.proc_api.proofs.RackLaws.{kind-at}
 use Rattle.proc_api.specs.KindRows.{all_kinds}
 use Rattle.query_model.specs.declared.processor_spec.Kind.TheVariants as kind
@@ -16,12 +16,7 @@ same-kind a b e =
 -- ---- counts
 
 none-first : (t : Bool) (n : ℕ) → cond t 1 0 + n ≡ 0 → (t ≡ false) × (n ≡ 0)
-none-first true n e = absurd (omega (arith, e))
-none-first false n e = (refl, omega (arith, e))
-
-some-later : (t : Bool) (n : ℕ) → t ≡ false → 0 < cond t 1 0 + n → 0 < n
-some-later true n e h = absurd (cc)
-some-later false n e h = omega (arith, h)
+none-first t n e = grind arith
 
 -- ---- one box
 
@@ -55,8 +50,7 @@ takes-first k before after b t =
 
 pub some-rest : (k : Kind) (p : BoxPicture) (boxes : List BoxPicture) → is_of k p ≡ false
     → 0 < count_by (is_of k) (p ∷ boxes) → 0 < count_by (is_of k) boxes
-some-rest k p boxes e some = some-later (is_of k p) (count_by (is_of k) boxes) e
-    (subst (λ n. 0 < n) (count_by-cons (is_of k) p boxes) some)
+some-rest k p boxes e some = grind (arith, count_by-cons)
 
 first-all : (P : BoxPicture → Type 0) (k : Kind) (boxes : List BoxPicture)
     → 0 < count_by (is_of k) boxes → All P boxes → P (first_box_of k boxes)
@@ -107,37 +101,27 @@ without-count j k (p ∷ boxes) = choose (is_of k p) refl (without-count j k box
         ≤ count_by (is_of j) (cond t boxes (p ∷ without_first_box k boxes)) + cond (same_kind k j) 1
         0
     choose true e rest =
-        let count : count_by (is_of j) (p ∷ boxes) ≡ cond (same_kind p.kind j) 1 0
-        + count_by (is_of j) boxes = count_by-cons (is_of j) p boxes in
         let same : ◌≡◌ {A = ℕ} (cond (same_kind p.kind j) 1 0) (cond (same_kind k j) 1 0) =
         ap {B = ℕ} (λ i. cond (same_kind i j) 1 0) (same-kind p.kind k e) in
-        omega (arith, count, same)
+        omega (arith, same, count_by-cons (is_of j) p boxes)
     choose false e rest =
-        let count : count_by (is_of j) (p ∷ boxes) ≡ cond (is_of j p) 1 0
-        + count_by (is_of j) boxes = count_by-cons (is_of j) p boxes in
-        let less : count_by (is_of j) (p ∷ without_first_box k boxes) ≡ cond (is_of j p) 1 0
-        + count_by (is_of j) (without_first_box k boxes) =
-        count_by-cons (is_of j) p (without_first_box k boxes) in
-        omega (arith, count, less, rest)
+        omega (
+          arith,
+          count_by-cons (is_of j) p boxes,
+          count_by-cons (is_of j) p (without_first_box k boxes),
+          rest,
+        )
 
 pub stock-step : (k : Kind) (kinds : List Kind) (boxes : List BoxPicture)
     → HasStock (k ∷ kinds) boxes → HasStock kinds (without_first_box k boxes)
 stock-step k kinds boxes h j =
-    let here = h j in
-    let asked : count_by (λ i. same_kind i j) (k ∷ kinds) ≡ cond (same_kind k j) 1 0
-    + count_by (λ i. same_kind i j) kinds = count_by-cons (λ i. same_kind i j) k kinds in
-    let less = without-count j k boxes in
-    omega (arith, here, asked, less)
+    omega (arith, h j, count_by-cons (λ i. same_kind i j) k kinds, without-count j k boxes)
 
 pub stock-here : (k : Kind) (kinds : List Kind) (boxes : List BoxPicture)
     → HasStock (k ∷ kinds) boxes → 0 < count_by (is_of k) boxes
 stock-here k kinds boxes h =
-    let here = h k in
-    let asked : count_by (λ i. same_kind i k) (k ∷ kinds) ≡ cond (same_kind k k) 1 0
-    + count_by (λ i. same_kind i k) kinds = count_by-cons (λ i. same_kind i k) k kinds in
-    let one : ◌≡◌ {A = ℕ} (cond (same_kind k k) 1 0) 1 = ap {B = ℕ} (λ t. cond t 1 0)
-    (eq-eqb (kind_place k) (kind_place k) refl) in
-    omega (arith, here, asked, one)
+    let one = eq-eqb (kind_place k) (kind_place k) refl in
+    grind (arith, h k, count_by-cons (λ i. same_kind i k) k kinds, one)
 
 -- the next box that is asked for is there
 pub still-there : (kinds : List Kind) (n : ℕ) (d : Kind) (boxes : List BoxPicture)
@@ -171,20 +155,16 @@ pub taken-kinds : (kinds : List Kind) (boxes : List BoxPicture) → HasStock kin
     → kinds_in (taken_for kinds boxes) ≡ kinds
 taken-kinds [] boxes h = refl
 taken-kinds (k ∷ kinds) boxes h =
-    let rest : kinds_in (taken_for kinds (without_first_box k boxes)) ≡ kinds =
-    taken-kinds kinds (without_first_box k boxes) (stock-step k kinds boxes h) in
-    ap (λ (i : Kind). i ∷ kinds_in (taken_for kinds (without_first_box k boxes)))
+    ap₂ (λ i l. i ∷ l)
     (same-kind (first_box_of k boxes).kind k (first-of-kind k boxes (stock-here k kinds boxes h)))
-    ∙ ap (λ l. k ∷ l) rest
+    (taken-kinds kinds (without_first_box k boxes) (stock-step k kinds boxes h))
 
 pub taken-all : (P : BoxPicture → Type 0) (kinds : List Kind) (boxes : List BoxPicture)
     → HasStock kinds boxes → All P boxes → All P (taken_for kinds boxes)
 taken-all P [] boxes h all = All-nil P
 taken-all P (k ∷ kinds) boxes h all =
-    All-cons P (first_box_of k boxes) (taken_for kinds (without_first_box k boxes))
-    (first-all P k boxes (stock-here k kinds boxes h) all)
-    (taken-all P kinds (without_first_box k boxes) (stock-step k kinds boxes h)
-    (without-all P k boxes all))
+    All-cons P _ _ (first-all P k boxes (stock-here k kinds boxes h) all)
+    (taken-all P kinds _ (stock-step k kinds boxes h) (without-all P k boxes all))
 
 pub left-all : (P : BoxPicture → Type 0) (kinds : List Kind) (boxes : List BoxPicture) → All P boxes
     → All P (left_after kinds boxes)
@@ -198,25 +178,21 @@ pub taken-more : (kinds : List Kind) (n : ℕ) (k : Kind) (boxes taken left : Li
     → take (n + 1) kinds ≡ take n kinds ++ k ∷ [] → left ≡ left_after (take n kinds) boxes
     → taken ≡ taken_for (take n kinds) boxes
     → taken ++ first_box_of k left ∷ [] ≡ taken_for (take (n + 1) kinds) boxes
-taken-more kinds n k boxes taken left more l t =
-    ap (λ xs. xs ++ first_box_of k left ∷ []) t
-    ∙ ap (λ ys. taken_for (take n kinds) boxes ++ first_box_of k ys ∷ []) l
-    ∙ sym (taken-snoc (take n kinds) k boxes) ∙ sym (ap (λ ks. taken_for ks boxes) more)
+taken-more kinds n k boxes taken left more l t = grind (arith, taken-snoc)
 
 pub left-more : (kinds : List Kind) (n : ℕ) (k : Kind) (boxes left : List BoxPicture)
     → take (n + 1) kinds ≡ take n kinds ++ k ∷ [] → left ≡ left_after (take n kinds) boxes
     → without_first_box k left ≡ left_after (take (n + 1) kinds) boxes
-left-more kinds n k boxes left more l = ap (without_first_box k) l
-    ∙ sym (left-snoc (take n kinds) k boxes) ∙ sym (ap (λ ks. left_after ks boxes) more)
+left-more kinds n k boxes left more l = grind (arith, left-snoc)
 
 -- at the same place
 pub taken-same : (kinds : List Kind) (n m : ℕ) (boxes taken : List BoxPicture) → n ≡ m
     → taken ≡ taken_for (take n kinds) boxes → taken ≡ taken_for (take m kinds) boxes
-taken-same kinds n m boxes taken e h = subst (λ k. taken ≡ taken_for (take k kinds) boxes) e h
+taken-same kinds n m boxes taken e h = grind arith
 
 pub left-same : (kinds : List Kind) (n m : ℕ) (boxes left : List BoxPicture) → n ≡ m
     → left ≡ left_after (take n kinds) boxes → left ≡ left_after (take m kinds) boxes
-left-same kinds n m boxes left e h = subst (λ k. left ≡ left_after (take k kinds) boxes) e h
+left-same kinds n m boxes left e h = grind arith
 
 -- ---- the next box, as the code takes it
 
@@ -233,32 +209,24 @@ left-first f k before ys b t = sym (takes-first k before (map f ys) (f b) t).1
 
 pub kinds-length : (specs : List Spec) (kept : List Kind)
     → length (kinds_taken specs kept) ≡ length specs + length kept
-kinds-length specs kept = length-append (kinds_of specs) kept
-    ∙ ap (λ n. n + length kept) (length-map specs kind_of)
+kinds-length specs kept = grind (arith, length-append, length-map)
 
 -- the kind that is asked for next, where it is that of the next node
 pub node-kind : (specs : List Spec) (kept : List Kind) (i : ℕ) (s : Spec) (k : Kind)
     → s ≡ get_or specs i s → i < length specs → k ≡ kind_of s
     → get_or (kinds_taken specs kept) i k ≡ k
-node-kind specs kept i s k read lt e =
-    get_or_append_left (kinds_of specs) kept k i
-    (subst (λ n. i < n) (sym (length-map specs kind_of)) lt)
-    ∙ get_or-map kind_of specs i s k lt ∙ ap kind_of (sym read) ∙ sym e
+node-kind specs kept i s k read lt e = grind (arith, get_or_append_left, length-map, get_or-map)
 
 -- or the next that is kept
 pub kept-kind : (specs : List Spec) (kept : List Kind) (i : ℕ) (k : Kind) → k ≡ get_or kept i k
     → get_or (kinds_taken specs kept) (length specs + i) k ≡ k
-kept-kind specs kept i k read =
-    ap (λ n. get_or (kinds_taken specs kept) (n + i) k) (sym (length-map specs kind_of))
-    ∙ get_or-append-add (kinds_of specs) kept i k ∙ sym read
+kept-kind specs kept i k read = grind (arith, length-map, get_or-append-add)
 
 pub kept-read : (specs : List Spec) (kept seen : List Kind) (i : ℕ) → seen ≡ kept → i < length kept
     → get_or (kinds_taken specs kept) (length specs + i) (get_or seen i kind.Csv)
     ≡ get_or seen i kind.Csv
 kept-read specs kept seen i e lt =
-    let k : Kind = get_or seen i kind.Csv in
-    kept-kind specs kept i k
-    (ap (λ l. get_or l i kind.Csv) e ∙ get_or_default kept i kind.Csv k lt)
+    kept-kind specs kept i _ (grind (arith, get_or_default))
 
 pub next-there : (kinds : List Kind) (i : ℕ) (k : Kind) (before left : List BoxPicture)
     → HasStock kinds before → left ≡ left_after (take i kinds) before → i < length kinds
@@ -270,4 +238,4 @@ next-there kinds i k before left stock l lt e =
 
 pub more-kinds : (kinds : List Kind) (i : ℕ) (k : Kind) → i < length kinds
     → get_or kinds i k ≡ k → take (i + 1) kinds ≡ take i kinds ++ k ∷ []
-more-kinds kinds i k lt e = take_more kinds i k lt ∙ ap (λ j. take i kinds ++ j ∷ []) e
+more-kinds kinds i k lt e = grind (arith, take_more)

@@ -1,11 +1,11 @@
 -- From the chunks that a plan's graph gives to the text of one answer of a command.
-use Rattle.query_run.proofs.Imports.{All, All-append, AllPartsValid, AreLawfulOver, Bool, BoxPicture, Checked, ColumnType, Command, DraftNode, Files, GivesText, GrowsLawfully, HasEnded, HasEnoughRows, HasGrown, HasPulled, HasStock, IfSome, IsCertain, IsDone, IsPlain, IsRunnable, IsUngrown, IsValidUsed, KeepsBehind, Kind, List, MakesText, NodeForm, NodePort, None, Option, Plain, PulledMore, PullsItsFlow, QueryAnswered, Row, RunsPlan, SelectPlan, Shape, Some, SortKey, Spec, Stream, [], answer_text, ap, arith, body_nodes, born_wires, both-valid, both_ways, box_at, chunk_rows, collect_node, database, false, flat_map, flow, get_or-map, grown-lists, handed_out_by, heading, if◌then◌else◌, inl, inr, join_use, join_valid, joined-valid, kind_of, kinds_for, kinds_reserved, length, length-append, length-map, lists-valid, map, needed_valid, node_form, order_of, parts_used, plan_nodes, plan_of, plan_valid, planned-ended, ports_of, pulled_rows, refl, reserves_from, rows_text, rows_together, same_kind, shape_of, since-pulled, shape_types, source_types, sources_of_files, spec_at, specs_in, stream_pulled_at, stream_rows, subst, sym, table-valid, true, ℕ, ◌++◌, ◌+◌, ◌-◌, ◌<◌, ◌∙◌, ◌∷◌, ◌≡◌, ◌⊎◌}
+use Rattle.query_run.proofs.Imports.{All, All-append, AllPartsValid, AreLawfulOver, Bool, BoxPicture, Checked, ColumnType, Command, DraftNode, Files, GivesText, GrowsLawfully, HasEnded, HasEnoughRows, HasGrown, HasPulled, IfSome, IsCertain, IsDone, IsPlain, IsRunnable, IsUngrown, IsValidUsed, KeepsBehind, Kind, List, MakesText, NodePort, None, Option, PulledMore, PullsItsFlow, QueryAnswered, Row, RunsPlan, SelectPlan, Shape, Some, SortKey, Spec, Stream, [], answer_text, ap, arith, body_nodes, born_wires, both-valid, box_at, chunk_rows, collect_node, database, false, flat_map, flow, get_or-map, grown-lists, handed_out_by, heading, if◌then◌else◌, inl, inr, join_use, join_valid, joined-valid, kind_of, kinds_reserved, length, length-append, length-map, lists-valid, map, needed_valid, order_of, parts_used, plan_nodes, plan_of, plan_valid, planned-ended, ports_of, pulled_rows, refl, reserves_from, rows_text, rows_together, same_kind, shape_of, shape_types, since-pulled, source_types, sources_of_files, spec_at, specs_in, stream_pulled_at, stream_rows, subst, sym, table-valid, true, ℕ, ◌++◌, ◌+◌, ◌-◌, ◌<◌, ◌∙◌, ◌∷◌, ◌≡◌, ◌⊎◌}
 use Rattle.query_model.specs.declared.processor_spec.Kind.TheVariants as kind
 use Rattle.query_model.specs.declared.processor_spec.Spec.TheVariants as spec
 use Rattle.query_run.proofs.Causes.{ran}
 use Rattle.query_run.proofs.Commands.{typed_by_tables}
 use Rattle.query_run.proofs.Grown.{formed, grows}
-use Rattle.query_run.proofs.Plans.{AreCopies, ended-kind, loaded-kind, small_plan}
+use Rattle.query_run.proofs.Plans.{AreCopies, RanCopies, ended-kind, loaded-kind, small_plan, stock}
 use Rattle.query_run.proofs.Pulling.{kept-other, kind-pulled}
 use Rattle.query_run.proofs.Reserves.{kept-sources}
 
@@ -18,8 +18,7 @@ heading_before_rows false names rows = refl
 
 if-some : {A : Type 0} {P Q : A → Type 0} (o : Option A) → ((x : A) → P x → Q x) → IfSome o P
     → IfSome o Q
-if-some None f h = h
-if-some (Some x) f h = f x h
+if-some o f h = grind arith
 
 -- a plan that was cut short reads valid parts alone, or the query has no groups and no order, and
 -- the joined table's parts are valid
@@ -27,20 +26,17 @@ cut_or_valid : (s : Shape) (from types : List ColumnType) (rows : ℕ) (keys : L
     (all join : Bool)
     → needed_valid (shape_of s from rows) (order_of types rows keys) all join ≡ true
     → (all ≡ true) ⊎ (IsPlain s × (keys ≡ []) × (join ≡ true))
-cut_or_valid (Plain items) from types rows [] all join e = inr (tt, refl, e)
-cut_or_valid s from types rows keys all join e = inl e
+cut_or_valid s from types rows keys all join e = grind arith
 
 -- a node of another kind than lists
 ungrown-kind : (k : Kind) (s : Spec) → same_kind kind.List k ≡ false
     → same_kind (kind_of s) k ≡ true → IsUngrown s
-ungrown-kind k (spec.List list) told of = absurd (both_ways (same_kind kind.List k) told of)
-ungrown-kind k s told of = tt
+ungrown-kind k s told of = grind arith
 
 -- ---- an ended plan
 
 module _ {c : Command} {q : Checked} {before after : List BoxPicture} {nodes : List DraftNode}
     (copies : AreCopies c q nodes) (runnable : IsRunnable c q before)
-    (stock : HasStock (kinds_for nodes) before)
     (keeps : KeepsBehind (length nodes) (formed nodes)) (text : List ℕ)
     (g : GivesText c.header q.names (specs_in nodes) (kinds_reserved (reserves_from 0 nodes))
     (formed nodes) before after text) where
@@ -59,6 +55,9 @@ module _ {c : Command} {q : Checked} {before after : List BoxPicture} {nodes : L
   abbrev run : RunsPlan specs kept before after ended
   run = g.gives.holds.runs
 
+  so : RanCopies c q before after nodes ended
+  so = record { copies = copies; runnable = runnable; run = run }
+
   abbrev grown : HasGrown (record {
     ranks = (formed nodes).ranks;
     wires = (formed nodes).wires;
@@ -75,21 +74,16 @@ module _ {c : Command} {q : Checked} {before after : List BoxPicture} {nodes : L
   count = length-append (body_nodes plan) (collect_node ∷ [])
 
   nodes_count : length nodes ≡ last + 1
-  nodes_count =
-      sym (length-map nodes node_form) ∙ ap (λ (l : List NodeForm). length l) copies.same
-      ∙ length-map (plan_nodes plan) node_form ∙ count
+  nodes_count = grind (arith, length-map, count, copies.same)
 
   in_ended : (n : ℕ) → n < length nodes → n < length ended
-  in_ended n lt =
-      let all = run.count in
-      let each = length-map nodes (λ (n : DraftNode). n.spec) in
-      omega (arith, lt, all, each)
+  in_ended n lt = grind (arith, run.count, length-map)
 
   module _ (files : Files) (honest : AreLawfulOver files before) where
     lawfully : GrowsLawfully files nodes (formed nodes).wires (formed nodes).reserves g.gives.boxes
         ended grown.births
-    lawfully = grows (record { copies = copies; runnable = runnable; stock = stock; run = run })
-        keeps g.gives.boxes g.gives.kinds_are g.gives.starting grown.births grown.are files honest
+    lawfully = grows so keeps g.gives.boxes g.gives.kinds_are g.gives.starting grown.births
+        grown.are files honest
 
     abbrev has_ended : HasEnded files nodes ended
     has_ended = record {
@@ -119,7 +113,7 @@ module _ {c : Command} {q : Checked} {before after : List BoxPicture} {nodes : L
         let lt : last < length nodes = let n = nodes_count in omega (arith, n) in
         let collected = answered.run.collected in
         let of_kind : (box_at ended last).kind ≡ kind.Collect =
-        sym (loaded-kind nodes before after ended stock run last spec.Collect (in_ended last lt)
+        sym (loaded-kind so last spec.Collect (in_ended last lt)
         collected.loaded) in
         let place : length specs - 1 ≡ last =
         let n = nodes_count in
@@ -171,12 +165,12 @@ module _ {c : Command} {q : Checked} {before after : List BoxPicture} {nodes : L
         let f : NodePort → Stream = stream_pulled_at ended has_ended.done.pulled in
         let others = kept-sources (λ j. same_kind j k ≡ false) csv 0 nodes in
         let each = length-map nodes (λ (n : DraftNode). n.spec) in
-        kind-pulled specs kept before after ended stock run k others n
+        kind-pulled specs kept before after ended (stock so) run k others n
         (elim (since-pulled k f 0 nodes ended has_ended.count
-        (λ i le lt. kept-other specs kept before after ended stock run k others i
+        (λ i le lt. kept-other specs kept before after ended (stock so) run k others i
         (rw length-map le) lt)
         (λ i z lt is. (
-          ended-kind nodes before after ended stock run i lt
+          ended-kind so i lt
               ∙ ap kind_of (get_or-map (λ (n : DraftNode). n.spec) nodes i z spec.Collect lt
               ∙ ap (λ (n : DraftNode). n.spec) is),
           λ of. subst (λ m. HasPulled (box_at ended i)
@@ -219,6 +213,6 @@ module _ {c : Command} {q : Checked} {before after : List BoxPicture} {nodes : L
   pub makes_text : MakesText c q text before after
   makes_text = record {
     runnable = runnable;
-    ran = ran after copies runnable stock keeps ended run;
+    ran = ran after copies runnable keeps ended run;
     answers = λ files told. flow_told files told;
   }

@@ -1,5 +1,5 @@
 -- The corollaries of the theorem on how a run ends, and completeness.
-use Rattle.query_run.proofs.Imports.{All, All-contains, Answered, AreLawfulOver, AreRefused, BadPlace, BoxPicture, Checked, Command, Declared, Ending, Ends, EndsEarly, EndsFor, EndsUnlawful, Failed, FailsAtPart, FailsFor, Failure, Files, GivesBack, HasBoxes, HasStock, IsAccepted, IsAnswerable, IsBlank, IsCheckedCommand, IsDueRefusal, IsEither, IsHonest, IsListDeclared, IsListNamed, IsListUsed, IsLongFile, IsRefused, IsRefusedFor, IsRefusedQuery, IsRun, IsRunnable, IsShort, IsValidList, IsValidUsed, IsWithinLimits, Kind, LackBoxes, LacksBoxes, LeavesBoxes, List, MakesText, MeanNothing, NameManyPaths, NamesFewPaths, None, OfChecked, OfCommand, OfQuery, Option, ParseRefusal, PartName, PlanFailsFor, PlanFailure, PulledRows, Query, RanPlan, ReaderFails, Refusal, Refused, Schema, Shortage, Some, SucceedsUnless, TakesBoxes, Untouched, UsedPart, WriteFailed, WritesAnswer, arith, bad_line_in, both_ways, boxes_for, command_means, failure_status, file_bytes, first_crowded, inl, inr, kinds_reserved, limits_kept, one_tree, plan_kinds, plan_nodes, plan_of, plan_status, query_status, refl, refusal_of, refused_status, reserves_from, runs-give-back, same_refusal, schemas_of, specs_in, status_of, subst, sym, text_status, used_parts, used_tables, ℕ, ◌∙◌, ◌≡◌, ◌≢◌, ◌⊎◌}
+use Rattle.query_run.proofs.Imports.{All, All-contains, Answered, AreRefused, BadPlace, BoxPicture, Checked, Command, Declared, Ending, Ends, EndsFor, EndsUnlawful, Failed, FailsAtPart, Failure, Files, GivesBack, HasBoxes, IsAccepted, IsAnswerable, IsBlank, IsCheckedCommand, IsDueRefusal, IsEither, IsHonest, IsListDeclared, IsListUsed, IsLongFile, IsRefusedFor, IsRun, IsRunnable, IsShort, IsValidList, IsValidUsed, IsWithinLimits, Kind, LackBoxes, LacksBoxes, LeavesBoxes, List, MeanNothing, NameManyPaths, NamesFewPaths, None, OfChecked, OfCommand, OfQuery, Option, PartName, PlanFailsFor, PlanFailure, PulledRows, Query, RanPlan, ReaderFails, Refusal, Refused, Shortage, Some, SucceedsUnless, Untouched, UsedPart, WriteFailed, WritesAnswer, arith, both_ways, boxes_for, command_means, failure_status, inl, inr, kinds_reserved, limits_kept, one_tree, plan_kinds, plan_nodes, plan_of, plan_status, query_status, refl, refused_status, reserves_from, runs-give-back, same_refusal, schemas_of, specs_in, status_of, subst, sym, used_parts, used_tables, ℕ, ◌∙◌, ◌≡◌, ◌≢◌, ◌⊎◌}
 use Rattle.query_model.specs.declared.query.Refusal.TheVariants as refuse
 use Rattle.sql_text.specs.declared.limits.ParseRefusal.TheVariants as parse
 use Rattle.query_run.specs.declared.ending.Refused.TheVariants as refused
@@ -12,89 +12,60 @@ use Rattle.query_run.proofs.Plans.{ended-lawful, kinds-for-same, plan_stock}
 -- words mean one command
 same_command : {P Q : Command → Type 0} {words : List (List ℕ)}
     → (a : OfCommand words P) (b : OfCommand words Q) → a.command ≡ b.command
-same_command a b = let e : Some a.command ≡ Some b.command = sym a.means ∙ b.means in cc
+same_command a b = grind arith
 
 -- what is true of a command is true of the one that the words mean
 moved : {P Q : Command → Type 0} {words : List (List ℕ)} (a : OfCommand words P)
     (b : OfCommand words Q) → P b.command
 moved {P} a b = subst P (same_command a b) a.holds
 
--- a command whose query is checked is accepted
-is_accepted : {P : Checked → Type 0} (command : Command) → OfChecked command P → IsAccepted command
-is_accepted command o = accepted_of command o.checked o.is
-
 -- words that mean a command don't mean nothing
 means_something : {P : Command → Type 0} {words : List (List ℕ)} → OfCommand words P
     → MeanNothing words → ⊥
-means_something o none = let wrong : Some o.command ≡ None = sym o.means ∙ none in absurd cc
+means_something o none = grind arith
 
--- the command that words mean is within its limits
-within_of : {P : Command → Type 0} {words : List (List ℕ)} (o : OfCommand words P)
-    → IsWithinLimits o.command
-within_of {words = words} o = limits_kept words o.command (command_means words o.command o.means)
+-- words whose query is checked aren't refused
+checked_not_refused : {P : Command → Checked → Type 0} {words : List (List ℕ)} → OfQuery words P
+    → AreRefused words → ⊥
+checked_not_refused h o = moved o h (accepted_of h.command h.holds.checked h.holds.is)
 
-not_short : (files : Files) (c : Command) (q : Checked) (before : List BoxPicture) (s : Shortage)
-    → IsWithinLimits c → IsCheckedCommand c q → NamesFewPaths c q → IsHonest files before
-    → IsShort (boxes_for c q) before s → ⊥
-not_short files c q before s within is few honest h =
-    let needed = h.needed_is in
-    let there = h.there in
-    let fewer = h.fewer in
-    let serves = stock_serves c q within is few s.kind in
-    let stock = honest.stock s.kind in
-    omega (arith, needed, there, fewer, serves, stock)
-
--- ---- refusals
+-- what else is true of the query that the words mean
+of_query : {P Q : Command → Checked → Type 0} {words : List (List ℕ)} (h : OfQuery words P)
+    → Q h.command h.holds.checked → OfQuery words Q
+of_query h x = record {
+  command = h.command;
+  means = h.means;
+  holds = record { checked = h.holds.checked; is = h.holds.is; holds = x };
+}
 
 -- what is none isn't some
 clash : {A : Type 0} {o : Option A} {x : A} → o ≡ None → o ≡ Some x → ⊥
-clash {A} {o} {x} a e = let wrong : Some x ≡ None = sym e ∙ a in absurd cc
+clash a e = grind arith
 
--- an accepted text is refused for want of memory alone
-text_not_refused : (command : Command) (refusal : ParseRefusal) → IsAccepted command
-    → IsRefused refusal command.query → text_status refusal ≡ 7
-text_not_refused command parse.Syntax a (inl h) = absurd (clash a.read.early h)
-text_not_refused command parse.Syntax a (inr h) = absurd (h.1 a.query a.read.spells)
-text_not_refused command parse.Memory a h = refl
-text_not_refused command r a h = absurd (clash a.read.early h)
+-- a refusal is for want of memory, or has status 2 and is of a text that isn't accepted
+refusal_is : (command : Command) (r : Refused) → IsRefusedFor r command
+    → (refused_status r ≡ 7) ⊎ ((refused_status r ≡ 2) × (IsAccepted command → ⊥))
+refusal_is command (refused.Text parse.Memory) h = inl refl
+refusal_is command (refused.Text parse.Syntax) (inl h) = inr (refl, λ a. clash a.read.early h)
+refusal_is command (refused.Text parse.Syntax) (inr h) =
+    inr (refl, λ a. h.1 a.query a.read.spells)
+refusal_is command (refused.Text r) h = inr (refl, λ a. clash a.read.early h)
+refusal_is command (refused.Query refusal) h = go refusal h.due
+  where
+    go : (r : Refusal) → IsDueRefusal h.query (schemas_of command) r
+        → (query_status r ≡ 7) ⊎ ((query_status r ≡ 2) × (IsAccepted command → ⊥))
+    go refuse.Memory due = inl refl
+    go r (inl e) = absurd cc
+    go r (inr e) = inr (
+      refl,
+      λ a. clash (same_refusal h.query a.query
+          (one_tree command.query h.query a.query h.read.spells a.read.spells) (schemas_of command)
+          ∙ a.accepted) e,
+    )
 
--- a refusal of a query is for want of memory, or has status 2 and is due
-due_status : (q : Query) (schemas : List Schema) (r : Refusal) → IsDueRefusal q schemas r
-    → (query_status r ≡ 7) ⊎ ((query_status r ≡ 2) × (refusal_of q schemas ≡ Some r))
-due_status q schemas refuse.Memory h = inl refl
-due_status q schemas r (inl e) = absurd cc
-due_status q schemas r (inr e) = inr (refl, e)
-
-query_not_refused : (command : Command) (refusal : Refusal) → IsAccepted command
-    → IsRefusedQuery command refusal → query_status refusal ≡ 7
-query_not_refused command refusal a h =
-    let same = one_tree command.query h.query a.query h.read.spells a.read.spells in
-    let none = same_refusal h.query a.query same (schemas_of command) ∙ a.accepted in
-    elim (due_status h.query (schemas_of command) refusal h.due) [
-      | inl memory ↦ memory
-      | inr due ↦ absurd (clash none due.1)
-    ]
-
--- the refusal of an accepted command is for want of memory alone
-accepted_memory : (command : Command) (r : Refused) → IsAccepted command → IsRefusedFor r command
-    → refused_status r ≡ 7
-accepted_memory command (refused.Text refusal) a h = text_not_refused command refusal a h
-accepted_memory command (refused.Query refusal) a h = query_not_refused command refusal a h
-
--- a refusal has status 2, and want of memory 7
-refused_either : (command : Command) (r : Refused) → IsRefusedFor r command
-    → IsEither 2 7 (refused_status r)
-refused_either command (refused.Text parse.Memory) h = inr refl
-refused_either command (refused.Text refusal) h = inl refl
-refused_either command (refused.Query refusal) h =
-    elim (due_status h.query (schemas_of command) refusal h.due) [
-      | inl memory ↦ inr memory
-      | inr due ↦ inl due.0
-    ]
-
-either_status : (m n status other : ℕ) → status ≡ other → IsEither m n other → IsEither m n status
-either_status m n status other s (inl h) = inl (s ∙ h)
-either_status m n status other s (inr h) = inr (s ∙ h)
+-- no failure has the status of an answer
+not_zero : (f : Failure) → failure_status f ≡ 0 → ⊥
+not_zero f e = grind arith
 
 -- ---- paths and racks that have too few boxes
 
@@ -103,48 +74,50 @@ not_lacking : (c : Command) (before : List BoxPicture)
     → OfChecked c (λ q. LacksBoxes (boxes_for c q) before) → ⊥
 not_lacking c before a b =
     let same = same_need c a.checked b.checked a.is b.is b.holds.kind in
-    let enough = a.holds b.holds.kind in
-    let fewer = b.holds.fewer in
-    omega (arith, same, enough, fewer)
+    grind (arith, same, a.holds b.holds.kind, b.holds.fewer)
 
 not_crowded : (c : Command) → OfChecked c (NamesFewPaths c)
     → OfChecked c (λ q. NamesFewPaths c q → ⊥) → ⊥
-not_crowded c a b =
-    b.holds (subst (λ us. first_crowded c.tables us ≡ None)
-    (same_uses c a.checked b.checked a.is b.is) a.holds)
+not_crowded c a b = grind (arith, same_uses c a.checked b.checked a.is b.is)
 
 -- ---- the run of a plan
 
 module _ (before after : List BoxPicture) where
-  module _ (files : Files) (c : Command) (q : Checked) (name : PartName)
-      (told : AreLawfulOver files before) (a : IsAnswerable files c)
-      (is : IsCheckedCommand c q) where
-    -- over valid parts no part is bad
-    not_bad : (place : BadPlace) → FailsAtPart name (part.Bad place) c q before after → ⊥
-    not_bad place h =
-        let bad = h.fails files told in
-        let valid = All-contains (IsValidUsed c.header files) (used_parts files c.tables q) bad.0
-        (a.valid q is) bad.1.used in
-        clash valid.1 bad.2
+  -- the boxes of a plan that ran were taken and given back
+  gives_back : (c : Command) (q : Checked) → IsRunnable c q before → RanPlan c q before after
+      → GivesBack (plan_kinds c q) before after
+  gives_back c q runnable r =
+      subst (λ ks. GivesBack ks before after)
+      (kinds-for-same r.nodes (plan_nodes (plan_of c q)) r.same)
+      (runs-give-back (specs_in r.nodes) (kinds_reserved (reserves_from 0 r.nodes)) before after
+      r.ended r.runs (plan_stock c q r.nodes before r.same runnable.boxes))
+
+  -- over an honest rack, for a command that can be answered
+  module _ (files : Files) (c : Command) (q : Checked) (honest : IsHonest files before)
+      (a : IsAnswerable files c) (is : IsCheckedCommand c q) where
+    -- no part is bad
+    not_bad : (name : PartName) (place : BadPlace)
+        → FailsAtPart name (part.Bad place) c q before after → ⊥
+    not_bad name place h =
+        let bad = h.fails files honest.boxes_are in
+        clash (All-contains (IsValidUsed c.header files) (used_parts files c.tables q) bad.0
+        (a.valid q is) bad.1.used).1 bad.2
 
     -- nor a list
-    good_list : (path : List ℕ) → IsListNamed c q name 0 path
-        → bad_line_in (file_bytes files path) ≡ None
-    good_list path n =
-        let used = All-contains (IsListUsed files c.tables) (used_tables q) (Declared n.list.place)
-        (a.lists q is) n.list.used in
-        let declared = subst (λ o. IsListDeclared files o) n.list.declared used in
-        (subst (λ d. IsValidList files d) n.list.names_list declared).1
-
-    not_bad_list : (line : ℕ) → FailsAtPart name (part.BadList line) c q before after → ⊥
-    not_bad_list line h =
-        let bad = h.fails files told in
-        clash (good_list bad.0 bad.1) bad.2
+    not_bad_list : (name : PartName) (line : ℕ)
+        → FailsAtPart name (part.BadList line) c q before after → ⊥
+    not_bad_list name line h =
+        let bad = h.fails files honest.boxes_are in
+        let list = bad.1.list in
+        let used = All-contains (IsListUsed files c.tables) (used_tables q) (Declared list.place)
+        (a.lists q is) list.used in
+        let declared = subst (λ o. IsListDeclared files o) list.declared used in
+        clash (subst (λ d. IsValidList files d) list.names_list declared).1 bad.2
 
     -- nor is one too long
-    not_long : FailsAtPart name part.TooLong c q before after → ⊥
-    not_long h =
-        let long = h.fails files told in
+    not_long : (name : PartName) → FailsAtPart name part.TooLong c q before after → ⊥
+    not_long name h =
+        let long = h.fails files honest.boxes_are in
         elim long.1 [
           | inl list ↦ a.lists_within q is long.0 list.list long.2
           | inr p ↦
@@ -153,95 +126,99 @@ module _ (before after : List BoxPicture) where
               (subst (λ path. IsLongFile files path) (sym p.2) long.2)
         ]
 
-  -- with lawful boxes no run ends by an unlawful one
-  not_unlawful : (files : Files) (k : Kind) (c : Command) (q : Checked) → AreLawfulOver files before
-      → IsCheckedCommand c q → EndsUnlawful k c q before after → ⊥
-  not_unlawful files k c q told is h =
-      both_ways _ h.unlawful (ended-lawful h.ran.nodes before after h.ran.ended
-      (subst (λ ks. HasStock ks before)
-      (sym (kinds-for-same h.ran.nodes (plan_nodes (plan_of c q)) h.ran.same))
-      (plan_stock c q before h.runnable.boxes)) h.ran.runs files told h.node h.in_range)
+    -- no run ends by an unlawful box
+    not_unlawful : IsWithinLimits c → (k : Kind) → EndsUnlawful k c q before after → ⊥
+    not_unlawful within k h =
+        both_ways _ h.unlawful (ended-lawful (record {
+          copies = record { within = within; checked = is; same = h.ran.same };
+          runnable = h.runnable;
+          run = h.ran.runs;
+        }) files honest.boxes_are h.node h.in_range)
 
-  -- the boxes of a plan that ran were taken and given back
-  gives_back : (c : Command) (q : Checked) → IsRunnable c q before → RanPlan c q before after
-      → GivesBack (plan_kinds c q) before after
-  gives_back c q runnable r =
-      let same = kinds-for-same r.nodes (plan_nodes (plan_of c q)) r.same in
-      subst (λ ks. GivesBack ks before after) same
-      (runs-give-back (specs_in r.nodes) (kinds_reserved (reserves_from 0 r.nodes)) before after
-      r.ended r.runs (subst (λ ks. HasStock ks before) (sym same)
-      (plan_stock c q before runnable.boxes)))
+    -- and the rack has enough boxes
+    not_short : IsWithinLimits c → (s : Shortage) → IsShort (boxes_for c q) before s → ⊥
+    not_short within s h =
+        let serves = stock_serves c q within is (a.paths q is) s.kind in
+        omega (arith, h.needed_is, h.there, h.fewer, serves, honest.stock s.kind)
 
-  -- why a plan took no box: too many paths, too few boxes or want of memory
-  abbrev TakesNone : PlanFailure → Command → Checked → Type 0
-  TakesNone f c q = (plan_status f ≡ 7)
-      ⊎ ((NamesFewPaths c q → ⊥) ⊎ LacksBoxes (boxes_for c q) before)
+    -- So a plan fails for want of memory alone, where no reader fails.
+    plan_memory : IsWithinLimits c → ((name : PartName)
+        → FailsAtPart name part.Read c q before after
+        ⊎ FailsAtPart name part.Stalled c q before after → ⊥)
+        → (f : PlanFailure) → PlanFailsFor f c q before after → plan_status f ≡ 7
+    plan_memory within well (plan.Paths name count) h = absurd (clash (a.paths q is) h.0)
+    plan_memory within well (plan.Stock s) h = absurd (not_short within s h.1)
+    plan_memory within well (plan.Part name (part.Bad place)) h = absurd (not_bad name place h)
+    plan_memory within well (plan.Part name (part.BadList line)) h =
+        absurd (not_bad_list name line h)
+    plan_memory within well (plan.Part name part.Read) h = absurd (well name (inl h))
+    plan_memory within well (plan.Part name part.Stalled) h = absurd (well name (inr h))
+    plan_memory within well (plan.Part name part.TooLong) h = absurd (not_long name h)
+    plan_memory within well (plan.Unlawful k) h = absurd (not_unlawful within k h)
+    plan_memory within well plan.Memory h = refl
 
-  -- a plan that failed gave its boxes back, or left the rack as it was
-  plan_left : (f : PlanFailure) (c : Command) (q : Checked) → PlanFailsFor f c q before after
-      → GivesBack (plan_kinds c q) before after ⊎ ((after ≡ before) × TakesNone f c q)
-  plan_left (plan.Paths name count) c q h = inr (h.1, inr (inl (λ few. clash few h.0)))
-  plan_left (plan.Stock s) c q h =
-      let needed = h.1.needed_is in
-      let there = h.1.there in
-      let fewer = h.1.fewer in
-      inr (h.2, inr (inr (record { kind = s.kind; fewer = omega (arith, needed, there, fewer) })))
-  plan_left (plan.Part name f) c q h = inl (gives_back c q h.runnable h.ran)
-  plan_left (plan.Unlawful k) c q h = inl (gives_back c q h.runnable h.ran)
-  plan_left plan.Memory c q (inl back) = inl back
-  plan_left plan.Memory c q (inr same) = inr (same, inl refl)
+-- ---- how a run ended
 
-  -- a failure of a plan within the limits, or its status
-  plan_limits : (f : PlanFailure) (c : Command) (q : Checked) → PlanFailsFor f c q before after
-      → IsRunnable c q before ⊎ IsEither 6 7 (plan_status f)
-  plan_limits (plan.Part name f) c q h = inl h.runnable
-  plan_limits plan.Memory c q h = inr (inr refl)
-  plan_limits f c q h = inr (inl refl)
-
-  -- A plan over an honest rack and valid parts fails for want of memory alone, where no reader
-  -- fails.
-  plan_memory : (f : PlanFailure) (files : Files) (c : Command) (q : Checked) → IsWithinLimits c
-      → IsHonest files before → IsAnswerable files c → IsCheckedCommand c q
-      → ((name : PartName) → FailsAtPart name part.Read c q before after
-      ⊎ FailsAtPart name part.Stalled c q before after → ⊥)
-      → PlanFailsFor f c q before after → plan_status f ≡ 7
-  plan_memory (plan.Paths name count) files c q within honest a is well h =
-      absurd (clash (a.paths q is) h.0)
-  plan_memory (plan.Stock s) files c q within honest a is well h =
-      absurd (not_short files c q before s within is h.0 honest h.1)
-  plan_memory (plan.Part name (part.Bad place)) files c q within honest a is well h =
-      absurd (not_bad files c q name honest.boxes_are a is place h)
-  plan_memory (plan.Part name (part.BadList line)) files c q within honest a is well h =
-      absurd (not_bad_list files c q name honest.boxes_are a is line h)
-  plan_memory (plan.Part name part.Read) files c q within honest a is well h =
-      absurd (well name (inl h))
-  plan_memory (plan.Part name part.Stalled) files c q within honest a is well h =
-      absurd (well name (inr h))
-  plan_memory (plan.Part name part.TooLong) files c q within honest a is well h =
-      absurd (not_long files c q name honest.boxes_are a is h)
-  plan_memory (plan.Unlawful k) files c q within honest a is well h =
-      absurd (not_unlawful files k c q honest.boxes_are is h)
-  plan_memory plan.Memory files c q within honest a is well h = refl
-
--- ---- statuses of failures
-
-refused_not_zero : (n : ℕ) → IsEither 2 7 n → n ≡ 0 → ⊥
-refused_not_zero n (inl e) z = omega (arith, e, z)
-refused_not_zero n (inr e) z = omega (arith, e, z)
-
-not_answered : (words : List (List ℕ)) (before after : List BoxPicture) (f : Failure)
-    → FailsFor f words before after → failure_status f ≡ 0 → ⊥
-not_answered words before after (failure.Refused r) h e =
-    refused_not_zero (refused_status r) (refused_either h.0.command r h.0.holds) e
-not_answered words before after (failure.Plan (plan.Part name part.Read)) h e = omega (arith, e)
-not_answered words before after f h e = omega (arith, e)
-
--- ---- the corollaries
+-- The boxes of the query's plan were taken and given back, where it was within its limits or memory
+-- ran out. Or the rack is as it was, for the one cause that the status tells.
+data Course (words : List (List ℕ)) (before after : List BoxPicture) (status : ℕ) : Type 0 where
+  takes_boxes : OfQuery words (λ c q. GivesBack (plan_kinds c q) before after
+      × (IsRunnable c q before ⊎ (status ≡ 7))) → Course words before after status
+  lacks_memory : after ≡ before → status ≡ 7 → Course words before after status
+  lacks_command : after ≡ before → status ≡ 1 → MeanNothing words
+      → Course words before after status
+  is_refused : after ≡ before → status ≡ 2 → AreRefused words → Course words before after status
+  meets_limit : after ≡ before → status ≡ 6 → NameManyPaths words ⊎ LackBoxes words before
+      → Course words before after status
 
 module _ (words : List (List ℕ)) (before after : List BoxPicture) (out₀ out : Option (List ℕ))
     (write : Type 0) (status : ℕ) where
   abbrev Why : Ending → Type 0
   Why e = EndsFor e words before after out₀ out write
+
+  abbrev HasCourse : Type 0
+  HasCourse = Course words before after status
+
+  -- a plan that ran
+  ran : {P : Command → Checked → Type 0} (h : OfQuery words P)
+      → IsRunnable h.command h.holds.checked before
+      → RanPlan h.command h.holds.checked before after → HasCourse
+  ran h within r = takes_boxes (of_query h
+      (gives_back before after h.command h.holds.checked within r, inl within))
+
+  plan_course : (f : PlanFailure) → status ≡ plan_status f
+      → OfQuery words (λ c q. PlanFailsFor f c q before after) → HasCourse
+  plan_course (plan.Paths name count) s h =
+      let why = h.holds.holds in
+      meets_limit why.1 s (inl (of_query h (λ few. clash few why.0)))
+  plan_course (plan.Stock short) s h =
+      let why = h.holds.holds in
+      let needed = why.1.needed_is in
+      let there = why.1.there in
+      let fewer = why.1.fewer in
+      meets_limit why.2 s (inr (of_query h
+      (record { kind = short.kind; fewer = omega (arith, needed, there, fewer) })))
+  plan_course (plan.Part name f) s h = ran h h.holds.holds.runnable h.holds.holds.ran
+  plan_course (plan.Unlawful k) s h = ran h h.holds.holds.runnable h.holds.holds.ran
+  plan_course plan.Memory s h = elim h.holds.holds [
+    | inl back ↦ takes_boxes (of_query h (back, inr s))
+    | inr same ↦ lacks_memory same s
+  ]
+
+  course : (e : Ending) → status ≡ status_of e → Why e → HasCourse
+  course Answered s h = ran h.1 h.1.holds.holds.runnable h.1.holds.holds.ran
+  course (Failed failure.Usage) s h = lacks_command h.0.1 s h.0.0
+  course (Failed (failure.Refused r)) s h =
+      elim (refusal_is h.0.0.command r h.0.0.holds) [
+        | inl memory ↦ lacks_memory h.0.1 (s ∙ memory)
+        | inr due ↦ is_refused h.0.1 (s ∙ due.0)
+            (record { command = h.0.0.command; means = h.0.0.means; holds = due.1 })
+      ]
+  course (Failed (failure.Plan f)) s h = plan_course f s h.0
+  course (Failed failure.Memory) s h = lacks_memory h.0 s
+  course WriteFailed s h = ran h.1 h.1.holds.holds.runnable h.1.holds.holds.ran
+
+  -- ---- the corollaries
 
   -- an answered run wrote the text of an answer, and its boxes pulled the flow of that answer
   pulled_of : (e : Ending) → status ≡ status_of e → Why e → status ≡ 0
@@ -251,7 +228,7 @@ module _ (words : List (List ℕ)) (before after : List BoxPicture) (out₀ out 
     record { command = h.1.command; means = h.1.means; holds = h.1.holds.holds.answers files told },
     h.2,
   )
-  pulled_of (Failed f) s h z = absurd (not_answered words before after f h.0 (sym s ∙ z))
+  pulled_of (Failed f) s h z = absurd (not_zero f (sym s ∙ z))
   pulled_of WriteFailed s h z = absurd (omega (arith, s, z))
 
   answered_of : PulledRows words before after out₀ out → WritesAnswer words before out₀ out
@@ -260,98 +237,36 @@ module _ (words : List (List ℕ)) (before after : List BoxPicture) (out₀ out 
       (w.0, record { command = w.1.command; means = w.1.means; holds = w.1.holds.answer }, w.2)
 
   -- words that mean no command are told so, or memory ran out
-  usage_of : (e : Ending) → status ≡ status_of e → Why e → MeanNothing words → IsEither 1 7 status
-  usage_of Answered s h none = absurd (means_something h.1 none)
-  usage_of (Failed failure.Usage) s h none = inl s
-  usage_of (Failed (failure.Refused r)) s h none = absurd (means_something h.0.0 none)
-  usage_of (Failed (failure.Plan f)) s h none = absurd (means_something h.0 none)
-  usage_of (Failed failure.Memory) s h none = inr s
-  usage_of WriteFailed s h none = absurd (means_something h.1 none)
-
-  checked_not_refused : {P : Command → Checked → Type 0} → OfQuery words P → AreRefused words → ⊥
-  checked_not_refused h o = moved o h (is_accepted h.command h.holds)
+  usage_of : HasCourse → MeanNothing words → IsEither 1 7 status
+  usage_of c none = grind (arith, means_something)
 
   -- a command whose text is not accepted is refused, or memory ran out
-  refused_of : (e : Ending) → status ≡ status_of e → Why e → AreRefused words → IsEither 2 7 status
-  refused_of Answered s h o = absurd (checked_not_refused h.1 o)
-  refused_of (Failed failure.Usage) s h o = absurd (means_something o h.0.0)
-  refused_of (Failed (failure.Refused r)) s h o =
-      either_status 2 7 status (refused_status r) s (refused_either h.0.0.command r h.0.0.holds)
-  refused_of (Failed (failure.Plan f)) s h o = absurd (checked_not_refused h.0 o)
-  refused_of (Failed failure.Memory) s h o = inr s
-  refused_of WriteFailed s h o = absurd (checked_not_refused h.1 o)
+  refused_of : HasCourse → AreRefused words → IsEither 2 7 status
+  refused_of (takes_boxes h) o = absurd (checked_not_refused h o)
+  refused_of (lacks_memory same s) o = inr s
+  refused_of (lacks_command same s none) o = absurd (means_something o none)
+  refused_of (is_refused same s r) o = inl s
+  refused_of (meets_limit same s (inl h)) o = absurd (checked_not_refused h o)
+  refused_of (meets_limit same s (inr h)) o = absurd (checked_not_refused h o)
 
-  -- Where a run within the limits of its plan is against P, and a refusal is too, the end is told
-  -- as a limit, or memory ran out.
+  -- Where a run within the limits of its plan is against P, the end is told as a limit, or memory
+  -- ran out.
   limit_of : (P : Command → Checked → Type 0)
       → ((c : Command) (q : Checked) → IsCheckedCommand c q → IsRunnable c q before
-      → OfChecked c (P c) → ⊥)
-      → (e : Ending) → status ≡ status_of e → Why e → OfQuery words P → IsEither 6 7 status
-  limit_of P against Answered s h o = absurd (against h.1.command h.1.holds.checked h.1.holds.is
-      h.1.holds.holds.runnable (moved o h.1))
-  limit_of P against (Failed failure.Usage) s h o = absurd (means_something o h.0.0)
-  limit_of P against (Failed (failure.Refused r)) s h o =
-      inr (s ∙ accepted_memory h.0.0.command r
-      (is_accepted h.0.0.command (moved o h.0.0)) h.0.0.holds)
-  limit_of P against (Failed (failure.Plan f)) s h o =
-      elim (plan_limits before after f h.0.command h.0.holds.checked h.0.holds.holds) [
-        | inl within ↦
-            absurd (against h.0.command h.0.holds.checked h.0.holds.is within (moved o h.0))
-        | inr either ↦ either_status 6 7 status (plan_status f) s either
-      ]
-  limit_of P against (Failed failure.Memory) s h o = inr s
-  limit_of P against WriteFailed s h o = absurd (against h.1.command h.1.holds.checked h.1.holds.is
-      h.1.holds.holds.runnable (moved o h.1))
-
-  -- where a table names too many paths, or the rack has too few boxes
-  paths_of : (e : Ending) → status ≡ status_of e → Why e → NameManyPaths words
-      → IsEither 6 7 status
-  paths_of = limit_of (λ c q. NamesFewPaths c q → ⊥) (λ c q is within o.
-      not_crowded c (record { checked = q; is = is; holds = within.paths }) o)
-
-  lacking_of : (e : Ending) → status ≡ status_of e → Why e → LackBoxes words before
-      → IsEither 6 7 status
-  lacking_of = limit_of (λ c q. LacksBoxes (boxes_for c q) before) (λ c q is within o.
-      not_lacking c before (record { checked = q; is = is; holds = within.boxes }) o)
-
-  -- what else is true of the query that the words mean
-  of_query : {P Q : Command → Checked → Type 0} (h : OfQuery words P) → Q h.command h.holds.checked
-      → OfQuery words Q
-  of_query h x = record {
-    command = h.command;
-    means = h.means;
-    holds =
-        record { checked = h.holds.checked; is = h.holds.is; holds = x };
-  }
-
-  taken : (text : List ℕ) → OfQuery words (λ c q. MakesText c q text before after)
-      → TakesBoxes words before after
-  taken text h = of_query h (gives_back before after h.command h.holds.checked
-      h.holds.holds.runnable h.holds.holds.ran)
+      → OfChecked c (P c) → ⊥) → HasCourse → OfQuery words P → IsEither 6 7 status
+  limit_of P against (takes_boxes h) o = elim h.holds.holds.1 [
+    | inl within ↦
+        absurd (against h.command h.holds.checked h.holds.is within (moved o h))
+    | inr memory ↦ inr memory
+  ]
+  limit_of P against (lacks_memory same s) o = inr s
+  limit_of P against (lacks_command same s none) o = absurd (means_something o none)
+  limit_of P against (is_refused same s r) o = absurd (checked_not_refused o r)
+  limit_of P against (meets_limit same s l) o = inl s
 
   -- whatever the status, the rack has its boxes again
-  left_of : (e : Ending) → status ≡ status_of e → Why e → LeavesBoxes words before after status
-  left_of Answered s h = inl (taken h.0 h.1)
-  left_of (Failed failure.Usage) s h = inr (h.0.1, inl (inl s))
-  left_of (Failed (failure.Refused r)) s h =
-      inr (h.0.1, early (refused_either h.0.0.command r h.0.0.holds))
-    where
-      early : IsEither 2 7 (refused_status r) → EndsEarly words before status
-      early (inl e) = inl (inr (s ∙ e))
-      early (inr e) = inr (inl (s ∙ e))
-  left_of (Failed (failure.Plan f)) s h =
-      elim (plan_left before after f h.0.command h.0.holds.checked h.0.holds.holds) [
-        | inl back ↦ inl (of_query h.0 back)
-        | inr same ↦ inr (same.0, early same.1)
-      ]
-    where
-      early : TakesNone before after f h.0.command h.0.holds.checked
-          → EndsEarly words before status
-      early (inl e) = inr (inl (s ∙ e))
-      early (inr (inl many)) = inr (inr (inl (of_query h.0 many)))
-      early (inr (inr lacks)) = inr (inr (inr (of_query h.0 lacks)))
-  left_of (Failed failure.Memory) s h = inr (h.0, inr (inl s))
-  left_of WriteFailed s h = inl (taken h.0 h.1)
+  left_of : HasCourse → LeavesBoxes words before after status
+  left_of c = grind arith
 
   -- ---- completeness
 
@@ -360,34 +275,40 @@ module _ (words : List (List ℕ)) (before after : List BoxPicture) (out₀ out 
   succeeds_of Answered s h = λ files honest o well. inl s
   succeeds_of (Failed failure.Usage) s h = λ files honest o well. absurd (means_something o h.0.0)
   succeeds_of (Failed (failure.Refused r)) s h = λ files honest o well.
-      inr (s ∙ accepted_memory h.0.0.command r (moved o h.0.0).accepted h.0.0.holds)
+      elim (refusal_is h.0.0.command r h.0.0.holds) [
+        | inl memory ↦ inr (s ∙ memory)
+        | inr due ↦ absurd (due.1 (moved o h.0.0).accepted)
+      ]
   succeeds_of (Failed (failure.Plan f)) s h = λ files honest o well.
-      inr (s ∙ plan_memory before after f files h.0.command h.0.holds.checked (within_of h.0) honest
-      (moved o h.0) h.0.holds.is
-      (λ name why. well (inl (of_query h.0 (name, why)))) h.0.holds.holds)
+      inr (s ∙ plan_memory before after files h.0.command h.0.holds.checked honest (moved o h.0)
+      h.0.holds.is (limits_kept words h.0.command (command_means words h.0.command h.0.means))
+      (λ name why. well (inl (of_query h.0 (name, why)))) f h.0.holds.holds)
   succeeds_of (Failed failure.Memory) s h = λ files honest o well. inr s
   succeeds_of WriteFailed s h = λ files honest o well. absurd (well (inr h.3))
 
   untouched_of : (e : Ending) → status ≡ status_of e → Why e → status ≢ 0 → status ≢ 5
       → Untouched out₀ out
-  untouched_of Answered s h some other = absurd (some s)
-  untouched_of (Failed f) s h some other = h.1
-  untouched_of WriteFailed s h some other = absurd (other s)
+  untouched_of e s h some other = grind arith
 
   -- all that is proved of a run, from how it ended
   pub is_run : (err₀ err : Option (List ℕ)) (tell : Type 0)
       → Ends words before after status out₀ out write err₀ err tell
       → All IsBlank after → IsRun words before after status out₀ out write err₀ err tell
-  is_run err₀ err tell h blank = record {
-    ends = h;
-    blank = blank;
-    answered = λ z. answered_of (pulled_of h.ending h.status_is h.why z);
-    pulled = pulled_of h.ending h.status_is h.why;
-    untouched = untouched_of h.ending h.status_is h.why;
-    usage = usage_of h.ending h.status_is h.why;
-    refused = refused_of h.ending h.status_is h.why;
-    paths = paths_of h.ending h.status_is h.why;
-    stock = lacking_of h.ending h.status_is h.why;
-    rack = left_of h.ending h.status_is h.why;
-    succeeds = succeeds_of h.ending h.status_is h.why;
-  }
+  is_run err₀ err tell h blank =
+      let went = course h.ending h.status_is h.why in
+      record {
+        ends = h;
+        blank = blank;
+        answered = λ z. answered_of (pulled_of h.ending h.status_is h.why z);
+        pulled = pulled_of h.ending h.status_is h.why;
+        untouched = untouched_of h.ending h.status_is h.why;
+        usage = usage_of went;
+        refused = refused_of went;
+        -- where a table names too many paths, or the rack has too few boxes
+        paths = limit_of (λ c q. NamesFewPaths c q → ⊥) (λ c q is within o.
+            not_crowded c (record { checked = q; is = is; holds = within.paths }) o) went;
+        stock = limit_of (λ c q. LacksBoxes (boxes_for c q) before) (λ c q is within o.
+            not_lacking c before (record { checked = q; is = is; holds = within.boxes }) o) went;
+        rack = left_of went;
+        succeeds = succeeds_of h.ending h.status_is h.why;
+      }

@@ -1,89 +1,72 @@
 -- A lawful box never lets a plan's graph grow by a growth that has a flaw.
-use Rattle.query_run.proofs.Imports.{All, All-append, All-cons, All-from_get_or, All-get_or, All-nil, AllByRecursion, Birth, Bool, BoxPicture, Checked, Command, DraftNode, Edge, FlawedWith, GraphBegins, GrowthForm, HasStock, IsAdded, IsBirth, IsListGrowth, IsRunnable, KeepsBehind, Kind, List, MayGrow, Me, New, None, Option, PartSpec, Reserve, RunsPlan, Some, Spec, Who, Wire, [], and_parts, ap, arith, births_of, born_wires, both_ways, box_at, cases_Bool, cases_lt, cond, end_node, eq-eqb, false, few-paths-in, flat_map, get_or, grown_ranks, grown_wires, growth_flaw, growth_list, growths_of, has_wrong_end, holds_node, inl, input_count, inr, is_named, is_reserved, is_some, kept_growths, kinds_for, kinds_reserved, le-leb, left_of, length, list-growth-has-no-flaw, list_any, list_growth, ltb-true, map, new_wire, new_wires, no_wire, not-false, or_parts, paths_in, rank_at, refl, reserve_of, reserved_nodes, reserves_from, set_ranks, set_ranks-other, sources-left, spec_at, specs_in, subst, sum_by, sum_by-cons, sym, take, true, wire_at, ℕ, ◌++◌, ◌+◌, ◌<◌, ◌==◌, ◌∙◌, ◌∷◌, ◌≡◌, ◌≢◌, ◌≤◌}
+use Rattle.query_run.proofs.Imports.{All, All-append, All-cons, All-from_get_or, All-get_or, All-nil, AllByRecursion, Birth, Bool, BoxPicture, Checked, Command, DraftNode, Edge, FlawedWith, GraphBegins, GrowthForm, IsAdded, IsBirth, IsListGrowth, IsRunnable, KeepsBehind, Kind, List, MayGrow, Me, New, None, Option, PartSpec, Reserve, RunsPlan, Some, Spec, Who, Wire, [], and_parts, ap, arith, births_of, born_wires, both_ways, box_at, cases_lt, cond, end_node, eq-eqb, false, few-paths-in, flat_map, get_or, grown_ranks, grown_wires, growth_flaw, growth_list, growths_of, has_wrong_end, holds_node, inl, input_count, inr, is_named, is_reserved, is_some, kept_growths, kinds_for, kinds_reserved, le-leb, left_of, length, list-growth-has-no-flaw, list_any, list_growth, ltb-true, map, new_wire, new_wires, no_wire, not-false, or_parts, paths_in, rank_at, refl, reserve_of, reserved_nodes, reserves_from, set_ranks-other, sources-left, spec_at, specs_in, subst, sum_by, sum_by-cons, sym, take, true, wire_at, ℕ, ◌++◌, ◌+◌, ◌<◌, ◌==◌, ◌∙◌, ◌∷◌, ◌≡◌, ◌≢◌, ◌≤◌}
 use Rattle.query_model.specs.declared.processor_spec.Kind.TheVariants as kind
 use Rattle.query_model.specs.declared.processor_spec.Spec.TheVariants as spec
-use Rattle.query_run.proofs.Grown.{RanCopies, blank-kept, ended-within, formed, kept-kind, list-reads, none-kept-at, ranked-list, ranked-within, unfed-first}
-use Rattle.query_run.proofs.Plans.{AreCopies, loaded-kind}
+use Rattle.query_run.proofs.Grown.{blank-kept, ended-within, formed, kept-kind, list-reads, none-kept-at, ranked-list, ranked-within, unfed-first}
+use Rattle.query_run.proofs.Plans.{AreCopies, RanCopies, loaded-kind}
 use Rattle.query_run.proofs.Kept.{Away, away-held, none-placed, others-all}
 use Rattle.query_run.proofs.Reserves.{IsListReserve, held-of, holds-one, holds-within, kept-of, past-of}
 
 -- ---- the wires of births
 
--- what is true of a wire between named ends is true of all wires of a growth
-ends-all : (n : ℕ) (places : List ℕ) (count : ℕ) (P : Wire → Type 0)
-    → ((e : Edge) → has_wrong_end count e ≡ false → P (new_wire n places e)) → (edges : List Edge)
-    → list_any (has_wrong_end count) edges ≡ false → All P (new_wires n places edges)
-ends-all n places count P each [] h = All-nil P
-ends-all n places count P each (e ∷ edges) h =
-    let both = or_parts _ _ h in
-    All-cons P (new_wire n places e) (new_wires n places edges) (each e both.0)
-    (ends-all n places count P each edges both.1)
+-- both ends of a wire
+abbrev Ends : (ℕ → Type 0) → Wire → Type 0
+Ends P w = P w.from × P w.to
 
--- an end that is named is the node that grew, or one of the new nodes
-named-end : (n : ℕ) (places : List ℕ) (count : ℕ) (q : ℕ) → length places ≡ count → n ≢ q
-    → ((k : ℕ) → k < length places → get_or places k 0 ≢ q) → (w : Who)
-    → is_named count w ≡ true → end_node n places w ≢ q
-named-end n places count q len own away Me h = own
-named-end n places count q len own away (New k) h =
-    let lt = ltb-true k count h in away k (omega (arith, lt, len))
+-- The ends of a growth's wires are the node that grew and the new nodes.
+module _ (P : ℕ → Type 0) (n : ℕ) (places : List ℕ) (own : P n)
+    (new : (k : ℕ) → k < length places → P (get_or places k 0)) where
+  named-end : (w : Who) → is_named (length places) w ≡ true → P (end_node n places w)
+  named-end Me h = own
+  named-end (New k) h = new k (ltb-true k (length places) h)
 
--- no wire of these births begins or ends at the node
-abbrev Misses : ℕ → Wire → Type 0
-Misses q w = (w.from ≢ q) × (w.to ≢ q)
+  new-ends : (edges : List Edge) → list_any (has_wrong_end (length places)) edges ≡ false
+      → All (Ends P) (new_wires n places edges)
+  new-ends [] h = All-nil (Ends P)
+  new-ends (e ∷ edges) h =
+      let both = or_parts (has_wrong_end (length places) e) _ h in
+      let ends = and_parts _ _ (not-false _ (or_parts _ _ both.0).0) in
+      All-cons (Ends P) (new_wire n places e) (new_wires n places edges) (
+        named-end e.from.who ends.0,
+        named-end e.to.who ends.1,
+      ) (new-ends edges both.1)
 
-module _ (R : List Reserve) (before after : List BoxPicture) (n q : ℕ)
-    (each : (b : Birth) → IsBirth R before after b → b.expander ≢ n
-    → (b.expander ≢ q) × Away q b) where
-  birth-misses : (b : Birth) → IsBirth R before after b → b.expander ≢ n
-      → All (Misses q) (born_wires b)
-  birth-misses b i other =
-      let x = each b i other in
-      let count : ℕ = length b.growth.specs in
-      ends-all b.expander b.places count (Misses q) (λ e wrong.
-      let named = and_parts _ _ (not-false _ (or_parts _ _ wrong).0) in (
-        named-end b.expander b.places count q i.as_many x.0 x.1 e.from.who named.0,
-        named-end b.expander b.places count q i.as_many x.0 x.1 e.to.who named.1,
-      )) b.growth.edges i.ends
-
-  -- no wire of births of which none is of node n is at node q
-  all-miss : (births : List Birth) → AllByRecursion (IsBirth R before after) births
-      → births_of n births ≡ [] → All (Misses q) (flat_map born_wires births)
-  all-miss births h none = go births (others-all R before after n
-      (λ (b : Birth). All (Misses q) (born_wires b)) birth-misses births h none)
-    where
-      go : (births : List Birth) → AllByRecursion (λ (b : Birth). All (Misses q) (born_wires b))
-          births → All (Misses q) (flat_map born_wires births)
-      go [] h = All-nil (Misses q)
-      go (b ∷ births) h =
-          All-append (Misses q) (born_wires b) (flat_map born_wires births) h.0 (go births h.1)
+-- no wire of births of which none is of node n is at node q
+all-miss : (R : List Reserve) (before after : List BoxPicture) (n q : ℕ)
+    → ((b : Birth) → IsBirth R before after b → b.expander ≢ n → (b.expander ≢ q) × Away q b)
+    → (births : List Birth) → AllByRecursion (IsBirth R before after) births
+    → births_of n births ≡ [] → All (Ends (λ m. m ≢ q)) (flat_map born_wires births)
+all-miss R before after n q each births h none = go births (others-all R before after n
+    (λ (b : Birth). All (Ends (λ m. m ≢ q)) (born_wires b)) (λ b i other.
+    let away = each b i other in
+    new-ends (λ m. m ≢ q) b.expander b.places away.0 away.1 b.growth.edges (rw i.as_many i.ends))
+    births h none)
+  where
+    go : (births : List Birth)
+        → AllByRecursion (λ (b : Birth). All (Ends (λ m. m ≢ q)) (born_wires b)) births
+        → All (Ends (λ m. m ≢ q)) (flat_map born_wires births)
+    go [] h = All-nil (Ends (λ m. m ≢ q))
+    go (b ∷ births) h = All-append (Ends (λ m. m ≢ q)) (born_wires b) (flat_map born_wires births)
+        h.0 (go births h.1)
 
 -- the rank of a node that no birth took is as it was
 rank-stays : (q : ℕ) (births : List Birth) (ranks : List ℕ) → AllByRecursion (Away q) births
     → rank_at (grown_ranks ranks births) q ≡ rank_at ranks q
 rank-stays q [] ranks h = refl
-rank-stays q (b ∷ births) ranks h =
-    rank-stays q births (set_ranks ranks b.places b.growth.ranks) h.1
-    ∙ set_ranks-other ranks b.places b.growth.ranks q h.0
+rank-stays q (b ∷ births) ranks h = grind (arith, rank-stays q births, set_ranks-other)
 
 -- no wire goes to a node without inputs
 none-to : (n : ℕ) (wires : List Wire) → input_count wires n ≡ 0 → All (λ w. w.to ≢ n) wires
 none-to n [] e = All-nil (λ w. w.to ≢ n)
-none-to n (w ∷ wires) e = elim (cases_Bool (w.to == n)) [
-  | inl same ↦
-      let one = ap (λ t. let k : ℕ = cond t 1 0 in k) same in
-      absurd (omega (arith, e, one, sum_by-cons (λ (v : Wire). cond (v.to == n) 1 0) w wires))
-  | inr other ↦
-      let one = ap (λ t. let k : ℕ = cond t 1 0 in k) other in
-      All-cons (λ w. w.to ≢ n) w wires (λ e. both_ways _ other (eq-eqb w.to n e))
-      (none-to n wires
-      (omega (arith, e, one, sum_by-cons (λ (v : Wire). cond (v.to == n) 1 0) w wires)))
-]
+none-to n (w ∷ wires) e =
+    let count = sum_by-cons (λ (v : Wire). cond (v.to == n) 1 0) w wires in
+    All-cons (λ w. w.to ≢ n) w wires (λ same. grind (arith, eq-eqb, count))
+    (none-to n wires (grind (arith, count)))
 
 -- ---- a plan's graph
 
 module _ {c : Command} {q : Checked} {before after : List BoxPicture} {nodes : List DraftNode}
     (copies : AreCopies c q nodes) (runnable : IsRunnable c q before)
-    (stock : HasStock (kinds_for nodes) before)
     (keeps : KeepsBehind (length nodes) (formed nodes)) (k : Kind)
     (g : GraphBegins (formed nodes) (kinds_for nodes)
     (FlawedWith (RunsPlan (specs_in nodes) (kinds_reserved (reserves_from 0 nodes)) before after)
@@ -97,7 +80,7 @@ module _ {c : Command} {q : Checked} {before after : List BoxPicture} {nodes : L
     ended = g.holds.ended
 
     ran : RanCopies c q before after nodes ended
-    ran = record { copies = copies; runnable = runnable; stock = stock; run = run }
+    ran = record { copies = copies; runnable = runnable; run = run }
 
     abbrev node : ℕ
     node = g.holds.node
@@ -161,7 +144,7 @@ module _ {c : Command} {q : Checked} {before after : List BoxPicture} {nodes : L
           | inr le ↦
               let csv = kept-kind ran node le g.holds.bad.bad.in_range in
               let wrong : kind.List ≡ kind.Csv =
-              loaded-kind nodes before after ended stock run node (spec.List list)
+              loaded-kind ran node (spec.List list)
               g.holds.bad.bad.in_range is ∙ csv in
               absurd cc
         ]
@@ -186,9 +169,9 @@ module _ {c : Command} {q : Checked} {before after : List BoxPicture} {nodes : L
         -- the new nodes of other births are neither the list nor kept for it
         away-list : (b : Birth) → IsBirth R started grown b → b.expander ≢ node → Away node b
         away-list b i other j lt e =
-            let past = (holds-within _ b.expander (length nodes) (length wires)
-            (reserves_from 0 nodes) (i.reserved j lt)).0 in
-            let less = own in absurd (omega (arith, past, e, less))
+            let past = holds-within _ b.expander (length nodes) (length wires)
+            (reserves_from 0 nodes) (i.reserved j lt) in
+            grind (arith, past, own)
 
         away-kept : (j : ℕ) → j < 32 → (b : Birth) → IsBirth R started grown b → b.expander ≢ node
             → Away (first + j) b
@@ -210,13 +193,14 @@ module _ {c : Command} {q : Checked} {before after : List BoxPicture} {nodes : L
             (blank-kept ran keeps g.boxes g.kinds_are g.starting (first + j) w.0 w.1)
             (none-placed (first + j) births (all-away (first + j) (away-kept j lt)))
 
-        missed-kept : (j : ℕ) → j < 32 → All (Misses (first + j)) (flat_map born_wires births)
+        missed-kept : (j : ℕ) → j < 32
+            → All (Ends (λ m. m ≢ first + j)) (flat_map born_wires births)
         missed-kept j lt = all-miss R started grown node (first + j) (λ b i other. (
           λ e. both_ways _ (ap is_some (blank j lt)) (rw e at i.grown),
           away-kept j lt b i other,
         )) births g.holds.bad.are.each none-before
 
-        missed-list : All (Misses node) (flat_map born_wires births)
+        missed-list : All (Ends (λ m. m ≢ node)) (flat_map born_wires births)
         missed-list = all-miss R started grown node node
             (λ b i other. (other, away-list b i other)) births g.holds.bad.are.each none-before
 
@@ -236,9 +220,9 @@ module _ {c : Command} {q : Checked} {before after : List BoxPicture} {nodes : L
         unfolding wire_at
         unwired e j lt few =
             let w = past j few in
-            All-get_or (Misses (first + j)) all_wires e no_wire lt
-            (All-append (Misses (first + j)) wires (flat_map born_wires births)
-            (All-from_get_or (Misses (first + j)) wires no_wire (λ m within_wires. (
+            All-get_or (Ends (λ m. m ≢ first + j)) all_wires e no_wire lt
+            (All-append (Ends (λ m. m ≢ first + j)) wires (flat_map born_wires births)
+            (All-from_get_or (Ends (λ m. m ≢ first + j)) wires no_wire (λ m within_wires. (
               λ is. reserved-wire (keeps.reserves_fit.from_added m within_wires) is w,
               λ is. reserved-wire (keeps.reserves_fit.to_added m within_wires) is w,
             ))) (missed-kept j few))
@@ -303,7 +287,4 @@ module _ {c : Command} {q : Checked} {before after : List BoxPicture} {nodes : L
 
     -- so a box whose growth has a flaw isn't lawful
     pub flawed-unlawful : box.lawful ≡ false
-    flawed-unlawful = elim (cases_Bool box.lawful) [
-      | inl lawful ↦ absurd (flawed lawful)
-      | inr not ↦ not
-    ]
+    flawed-unlawful = grind (arith, flawed)

@@ -1,12 +1,12 @@
 -- A plan's graph that ran over an honest rack has grown by its lists, and each box served the part
 -- that is noted of it.
 pub use Rattle.query_run.specs.Steps.{formed}
-use Rattle.query_run.proofs.Imports.{AreBirths, AreLawfulOver, AreStarting, Birth, Bool, BoxPicture, Checked, Command, Contains, DraftNode, Files, GraphForm, GrowsLawfully, HasStock, IsAboveSources, IsListNamed, IsPartNamed, IsPlanGraph, IsRunnable, IsSourceKind, KeepsBehind, Kind, List, None, Option, PartName, PartSpec, ReadsNamed, RunsPlan, ServesNamed, Some, SourceHas, Spec, StartsAs, UsedPart, [], ap, arith, at-recursion, box_at, cases_Bool, cases_lt, collect_node, cond, ended-later, false, get_or, get_or-append-add, get_or-map, get_or_append_left, get_or_default, get_or_past, growth_list, inl, input_count, inr, is_reserved, is_some, kept_growths, kind_of, kinds_for, kinds_in, kinds_of, kinds_reserved, le-leb, length, length-append, length-map, length-replicate, listed_part, map, name_at, no_box, no_draft, part_place, paths_in, places_in, plan-graph, plan-ranked, plan_of, rank_at, refl, replicate, reserved_nodes, reserves_behind, reserves_from, same_kind, slice_get, spec_at, specs_in, subst, sym, take, taken-kinds, taken-length, taken_for, true, used_part, used_parts, with_nodes, ℕ, ⊤, ◌++◌, ◌+◌, ◌-◌, ◌<◌, ◌∙◌, ◌≡◌, ◌≤◌}
+use Rattle.query_run.proofs.Imports.{AreBirths, AreLawfulOver, AreStarting, Birth, Bool, BoxPicture, Checked, Command, Contains, DraftNode, Files, GrowsLawfully, GrowthForm, IsAboveSources, IsListGrowth, IsListNamed, IsPartNamed, IsPlanGraph, IsSourceKind, KeepsBehind, Kind, List, None, Option, PartName, PartSpec, ReadsNamed, Reserve, ServesNamed, Some, SourceHas, Spec, StartsAs, TakeBlanks, UsedPart, [], ap, arith, at-recursion, births_of, blanks_of, both_ways, box_at, cases_Bool, cases_lt, collect_node, ended-later, eq-eqb, false, few-paths-in, file_bytes, filter-append, form-csv, form_at, form_kind, get_or, get_or-append-add, get_or-map, get_or-range_with_len, get_or_append_left, get_or_default, get_or_past, growths_of, holds_node, inl, input_count, inr, is_place, is_some, kept_growths, kind_of, kinds_for, kinds_in, kinds_of, kinds_reserved, le-leb, length, length-append, length-map, length-range_with_len, length-replicate, listed_part, map, name_at, nil_from_length, no_box, part-form, part_place, paths_in, places-listed, places_for, places_in, plan-graph, plan-ranked, plan_of, range_with_len, rank_at, refl, replicate, reserve_of, reserved_nodes, reserves_from, same_kind, slice_get, sources, sources-left, spec_at, specs_in, subst, sym, take, taken-kinds, taken-length, taken_for, true, unboxed, used_part, used_parts, ℕ, ⊤, ◌++◌, ◌+◌, ◌-◌, ◌<◌, ◌==◌, ◌∙◌, ◌∷◌, ◌≡◌, ◌≢◌, ◌≤◌}
 use Rattle.query_model.specs.declared.processor_spec.Kind.TheVariants as kind
 use Rattle.query_model.specs.declared.processor_spec.Spec.TheVariants as spec
-use Rattle.query_run.proofs.Kept.{IsKeptFor, kept-for, kept-place, listed, numbered-contains, slice-left, slice-right}
-use Rattle.query_run.proofs.Plans.{AreCopies, IsUsedList, IsUsedPart, ended-files, ended-lawful, list-named, list-ports, loaded-kind, part-named, place-at, ran-at, reads-named, small_plan, source-at}
-use Rattle.query_run.proofs.Reserves.{holds-within, kept-sources, kinds-length}
+use Rattle.query_run.proofs.Kept.{Away, IsKeptFor, IsTaken, away-held, kept-for, kept-place, none-placed, numbered-contains, others-all, slice-left, slice-right, taken-by, takes-at}
+use Rattle.query_run.proofs.Plans.{RanCopies, IsUsedList, IsUsedPart, ended-files, ended-lawful, list-named, list-ports, loaded-kind, part-named, place-at, ran-at, reads-named, small_plan, source-at, stock}
+use Rattle.query_run.proofs.Reserves.{IsListReserve, held-of, holds-one, holds-within, kept-of, kept-sources, kinds-length, past-of}
 
 -- the name that is noted of a box
 abbrev pub names_of : Command → List DraftNode → ℕ → PartName
@@ -23,10 +23,7 @@ ReadsItsName c q files name s = ⊤
 kinds-count : (nodes : List DraftNode)
     → length (kinds_for nodes) ≡ length nodes + reserved_nodes (reserves_from 0 nodes)
 kinds-count nodes =
-    let both = length-append (kinds_of (specs_in nodes)) (kinds_reserved (reserves_from 0 nodes)) in
-    let first = length-map (specs_in nodes) kind_of in
-    let each = length-map nodes (λ (n : DraftNode). n.spec) in
-    omega (arith, both, first, each, kinds-length (reserves_from 0 nodes))
+    search (arith, length-append, length-map, kinds-length)
 
 -- boxes of these kinds are sources behind the nodes
 pub kind-kept : (nodes : List DraftNode) (boxes : List BoxPicture)
@@ -52,32 +49,13 @@ kind-kept nodes boxes e n le lt =
 -- each node and each that is kept has a rank
 pub ranked-within : (nodes : List DraftNode) (n : ℕ)
     → n < length nodes + reserved_nodes (reserves_from 0 nodes) → n < length (formed nodes).ranks
-ranked-within nodes n lt =
-    let ranks : List ℕ = map (λ (n : DraftNode). n.rank) nodes in
-    let kept : ℕ = reserved_nodes (reserves_from 0 nodes) in
-    omega (
-      arith,
-      lt,
-      length-append ranks (replicate kept 0),
-      length-map nodes (λ (n : DraftNode). n.rank),
-      length-replicate {A = ℕ} kept 0,
-    )
+ranked-within nodes n lt = grind (arith, length-append, length-map, length-replicate)
 
 none-kept : (p : BoxPicture) (b : Bool) → StartsAs b p → kept_growths p ≡ []
-none-kept p true blank = ap (λ o. cond (is_some o) (growth_list p.growth) []) blank
-none-kept p false fresh = go (is_some p.spec)
-  where
-    go : (b : Bool) → cond b (growth_list p.growth) [] ≡ []
-    go true = ap growth_list fresh.ungrown
-    go false = refl
+none-kept p b h = grind arith
 
--- such copies that ran over a rack that has their boxes
-pub record RanCopies (c : Command) (q : Checked) (before after : List BoxPicture)
-    (nodes : List DraftNode) (ended : List BoxPicture) : Type 0 where
-  pub copies : AreCopies c q nodes
-  pub runnable : IsRunnable c q before
-  pub stock : HasStock (kinds_for nodes) before
-  pub run : RunsPlan (specs_in nodes) (kinds_reserved (reserves_from 0 nodes)) before after ended
+at-most-one : (p : BoxPicture) → length (kept_growths p) ≤ 1
+at-most-one p = grind arith
 
 module _ {c : Command} {q : Checked} {before after : List BoxPicture} {nodes : List DraftNode}
     {ended : List BoxPicture} (x : RanCopies c q before after nodes ended) where
@@ -91,22 +69,14 @@ module _ {c : Command} {q : Checked} {before after : List BoxPicture} {nodes : L
   kept = reserved_nodes (reserves_from 0 nodes)
 
   ended-count : length ended ≡ length nodes + kept
-  ended-count =
-      let count = x.run.count in
-      let each = length-map nodes (λ (n : DraftNode). n.spec) in
-      omega (arith, count, each, kinds-length (reserves_from 0 nodes))
+  ended-count = grind (arith, length-map, kinds-length)
 
   abbrev names : ℕ → PartName
   names = names_of c nodes
 
   named-first : (n : ℕ) → n < length nodes
       → names n ≡ name_at c.tables (Some (part_place (spec_at specs n)))
-  named-first n lt =
-      let each = length-map nodes (λ (n : DraftNode). n.spec) in
-      let placed = length-map specs part_place in
-      ap (name_at c.tables)
-      (slice-left (map part_place specs) _ n (omega (arith, lt, each, placed))
-      ∙ place-at specs n (omega (arith, lt, each)))
+  named-first n lt = grind (arith, length-map, slice-left, place-at)
 
   abbrev for-list : ℕ → Type 0
   for-list n = IsKeptFor 0 (length nodes) nodes n
@@ -140,7 +110,7 @@ module _ {c : Command} {q : Checked} {before after : List BoxPicture} {nodes : L
       → ServesNamed c q nodes n (names n)
   serves n lt source = elim (cases_lt n (length nodes)) [
     | inl less ↦
-        let r = ran-at nodes before after ended x.stock x.run n less in
+        let r = ran-at x n less in
         let kind : IsSourceKind (kind_of (spec_at specs n)) =
         subst IsSourceKind (r.kind ∙ sym r.of_kind) source in
         inl (subst (λ name. ReadsNamed c q name (spec_at specs n)) (sym (named-first n less))
@@ -165,12 +135,11 @@ module _ {c : Command} {q : Checked} {before after : List BoxPicture} {nodes : L
       → (box_at ended n).kind ≡ kind.Csv
   kept-kind n le lt =
       let len = taken-length (kinds_for nodes) before in
-      let all = kinds-count nodes in
       (ended-later specs (kinds_reserved (reserves_from 0 nodes)) before after ended x.run n
       lt).kind
       ∙ kind-kept nodes (taken_for (kinds_for nodes) before)
-      (taken-kinds (kinds_for nodes) before x.stock) n le
-      (omega (arith, lt, ended-count, len, all))
+      (taken-kinds (kinds_for nodes) before (stock x)) n le
+      (omega (arith, lt, ended-count, len, kinds-count nodes))
 
   pub ended-within : (n : ℕ) → n < length nodes + kept → n < length ended
   ended-within n lt = omega (arith, lt, ended-count)
@@ -197,7 +166,7 @@ module _ {c : Command} {q : Checked} {before after : List BoxPicture} {nodes : L
       → (box_at ended n).spec ≡ Some (spec.List list) → spec_at specs n ≡ spec.List list
   list-reads n list lt is =
       let e : Some (spec_at specs n) ≡ Some (spec.List list) =
-      sym (ran-at nodes before after ended x.stock x.run n lt).spec ∙ is in
+      sym (ran-at x n lt).spec ∙ is in
       cc
 
   -- ---- over an honest rack
@@ -206,16 +175,11 @@ module _ {c : Command} {q : Checked} {before after : List BoxPicture} {nodes : L
       (kinds_are : kinds_in started ≡ kinds_for nodes)
       (starting : AreStarting (formed nodes).reserves started) where
     started-count : length started ≡ length nodes + kept
-    started-count = sym (length-map started (λ (p : BoxPicture). p.kind))
-        ∙ ap (λ (l : List Kind). length l) kinds_are ∙ kinds-count nodes
+    started-count = grind (arith, length-map, kinds-count)
 
     pub none-kept-at : (n : ℕ) → kept_growths (box_at started n) ≡ []
     unfolding box_at
-    none-kept-at n = elim (cases_lt n (length started)) [
-      | inl lt ↦ none-kept (box_at started n) (is_reserved (formed nodes).reserves n)
-          (starting n lt)
-      | inr le ↦ ap kept_growths (get_or_past started n no_box le)
-    ]
+    none-kept-at n = grind (arith, cases_lt, none-kept, get_or_past)
 
     -- a box that is kept starts blank
     pub blank-kept : (n : ℕ) → length nodes ≤ n → n < length nodes + kept
@@ -233,12 +197,12 @@ module _ {c : Command} {q : Checked} {before after : List BoxPicture} {nodes : L
       grows = record {
         are = are;
         ungrown = none-kept-at;
-        lawful = λ n lt. ended-lawful nodes before after ended x.stock x.run files honest n lt;
+        lawful = λ n lt. ended-lawful x files honest n lt;
         told = λ n s lt is source.
-            ended-files nodes before after ended x.stock x.run files honest n lt
-            (subst IsSourceKind (loaded-kind nodes before after ended x.stock x.run n s lt is)
+            ended-files x files honest n lt
+            (subst IsSourceKind (loaded-kind x n s lt is)
             source);
-        specs = λ n z lt is. (ran-at nodes before after ended x.stock x.run n lt).spec
+        specs = λ n z lt is. (ran-at x n lt).spec
             ∙ ap (λ s. Some s) (get_or-map (λ (n : DraftNode). n.spec) nodes n z spec.Collect lt
             ∙ ap (λ (n : DraftNode). n.spec) is);
         behind = λ n k held.
@@ -254,6 +218,165 @@ module _ {c : Command} {q : Checked} {before after : List BoxPicture} {nodes : L
             let ports = list-ports x.copies n list lt (list-reads n list lt is) in
             (graph.graph.inputs n ∙ ports.0, graph.graph.outputs n ∙ ports.1);
       }
+
+      abbrev R : List Reserve
+      R = (formed nodes).reserves
+
+      abbrev edges : ℕ
+      edges = length (formed nodes).wires
+
+      one-holder : (node m n : ℕ) → holds_node node (reserve_of R m) ≡ true
+          → holds_node node (reserve_of R n) ≡ true → m ≡ n
+      one-holder node m n h k = holds-one node m n _ _ _ h k
+
+      -- what a loaded box that is kept for a list reads: the part of its place
+      pub record IsListed (node : ℕ) (f : IsKeptFor 0 (length nodes) nodes node) : Type 0 where
+        pub text : List ℕ
+        pub bytes_are : file_bytes files f.list.path ≡ Some text
+        pub path : List ℕ
+        pub in_range : f.place < length (paths_in (Some text))
+        pub is : get_or (paths_in (Some text)) f.place path ≡ path
+        pub loaded : (box_at ended node).spec ≡ Some (spec.Csv (listed_part f.list f.place path))
+
+      module _ (node : ℕ) (f : IsKeptFor 0 (length nodes) nodes node)
+          (born : is_some (box_at ended node).spec ≡ true) where
+        abbrev m : ℕ
+        m = f.lister
+
+        reserve : IsListReserve (reserve_of R m)
+            (length nodes + reserved_nodes (reserves_from 0 (take m nodes)))
+        reserve = kept-of nodes edges m f.list f.in_range f.reads
+
+        abbrev first : ℕ
+        first = (reserve_of R m).first_node
+
+        at-place : node ≡ first + f.place
+        at-place = let is = f.is in let e = reserve.first_node in omega (arith, is, e)
+
+        -- each node of the list's reserve is held by it, and was a blank source
+        held : (k : ℕ) → k < 32 → holds_node (first + k) (reserve_of R m) ≡ true
+        held = held-of nodes edges m f.list f.in_range f.reads
+
+        left : (k : ℕ) → k < 32 → ((box_at started (first + k)).spec ≡ None)
+            × ((box_at started (first + k)).kind ≡ kind.Csv)
+        left k lt =
+            let w = past-of nodes edges m f.list f.in_range f.reads k lt in
+            let high = w.1 in (
+              blank-kept (first + k) w.0 w.1,
+              kind-kept nodes started kinds_are (first + k) w.0
+                  (omega (arith, high, started-count)),
+            )
+
+        taken : IsTaken R started ended births node
+        taken = elim (cases_Bool (is_place births node)) [
+          | inl new ↦ taken-by R started ended births node are.each new
+          | inr old ↦
+              let same : first + f.place ≡ node = sym at-place in
+              let none = are.stay_blank node (rw same at (left f.place f.place_in_range).0) old in
+              absurd (both_ways _ (ap is_some none) born)
+        ]
+
+        abbrev birth : Birth
+        birth = taken.birth
+
+        expander : birth.expander ≡ m
+        expander = one-holder node birth.expander m
+            (rw taken.is at (taken.is_birth.reserved taken.place taken.in_range))
+            (subst (λ n. holds_node n (reserve_of R m) ≡ true) (sym at-place)
+            (held f.place f.place_in_range))
+
+        in-ended : m < length ended
+        in-ended = let lt = f.in_range in omega (arith, lt, ended-count)
+
+        lister-loaded : (box_at ended m).spec ≡ Some (spec.List f.list)
+        lister-loaded = (ran-at x m f.in_range).spec ∙ ap (λ s. Some s) f.reads
+
+        lister-lawful : (box_at ended m).lawful ≡ true
+        lister-lawful = ended-lawful x files honest m in-ended
+
+        may : IsListGrowth f.list (Some files) birth.growth
+        may =
+            let told = ended-files x files honest m in-ended
+            (subst IsSourceKind (loaded-kind x m (spec.List f.list) in-ended lister-loaded) tt) in
+            rw (expander, lister-loaded, told) at
+            (taken.is_birth.may_grow (rw expander lister-lawful))
+
+        abbrev paths : List (List ℕ)
+        paths = paths_in (Some may.text)
+
+        none-earlier : births_of m taken.earlier ≡ []
+        none-earlier =
+            let one = at-most-one (box_at ended m) in
+            let all = length-map (births_of m births) (λ (b : Birth). b.growth) in
+            let parts = ap (λ l. length (births_of m l)) taken.split
+            ∙ ap (λ l. length l)
+            (filter-append (λ (b : Birth). b.expander == m) taken.earlier (birth ∷ taken.later))
+            ∙ length-append (births_of m taken.earlier) (births_of m (birth ∷ taken.later)) in
+            let some : 1 ≤ length (births_of m (birth ∷ taken.later)) =
+            rw (eq-eqb birth.expander m expander) (omega arith) in
+            let born : growths_of m births ≢ [] =
+            (λ none. let len = ap (λ l. length l) none in omega (arith, len, all, parts, some)) in
+            let kept = are.grew m lister-lawful born
+            ∙ ap (λ l. l ++ growths_of m births) (none-kept-at m) in
+            let len = ap (λ l. length l) kept in
+            nil_from_length (births_of m taken.earlier) (omega (arith, one, len, all, parts, some))
+
+        blanks : blanks_of started ([] ++ taken.earlier) (reserve_of R birth.expander).first_node
+            (reserve_of R birth.expander).nodes ≡ sources first 32
+        blanks =
+            let few = reserve.nodes in
+            rw (expander, few) (sources-left started taken.earlier first 32 (λ k lt. (
+              none-placed (first + k) taken.earlier (others-all R started ended m (Away (first + k))
+                  (away-held R started ended one-holder m (first + k) (held k lt)) taken.earlier
+                  taken.each none-earlier),
+              left k lt,
+            )))
+
+        places : birth.places ≡ range_with_len first (length paths)
+        places =
+            let t = takes-at R started ended [] taken.earlier birth taken.later
+            (subst (TakeBlanks R started []) taken.split are.take) in
+            t.1 ∙ ap (λ l. places_for (map form_kind birth.growth.specs) l t.0) blanks
+            ∙ ap (λ (h : GrowthForm). places_for (map form_kind h.specs) (sources first 32) t.0)
+            may.is
+            ∙ places-listed f.list 0 paths first 32 t.0 (few-paths-in (Some may.text))
+
+        in-paths : taken.place < length paths
+        in-paths =
+            let lt = taken.in_range in
+            let len = ap (λ l. length l) places ∙ length-range_with_len first (length paths) in
+            omega (arith, lt, len)
+
+        same-place : taken.place ≡ f.place
+        same-place =
+            let at = sym taken.is ∙ ap (λ l. get_or l taken.place 0) places
+            ∙ get_or-range_with_len first (length paths) taken.place 0 in-paths in
+            omega (arith, at, at-place)
+
+        pub listed : IsListed node f
+        listed =
+            let path : List ℕ = get_or paths taken.place [] in
+            let is : get_or paths taken.place path ≡ path =
+            get_or_default paths taken.place path [] in-paths in
+            let form : form_at birth.growth.specs taken.place
+            ≡ unboxed (spec.Csv (listed_part f.list taken.place path)) =
+            ap (λ (h : GrowthForm). form_at h.specs taken.place) may.is
+            ∙ part-form f.list 0 paths taken.place path in-paths is
+            ∙ (let none : 0 + taken.place ≡ taken.place = omega arith in
+            ap (λ j. unboxed (spec.Csv (listed_part f.list j path))) none) in
+            let loaded =
+            rw taken.is at (form-csv (box_at ended (get_or birth.places taken.place 0)).spec
+            (form_at birth.growth.specs taken.place) (listed_part f.list taken.place path) form
+            (taken.is_birth.born taken.place taken.in_range)) in
+            let within_paths = rw same-place at in-paths in
+            record {
+              text = may.text;
+              bytes_are = may.are;
+              path = get_or paths f.place [];
+              in_range = within_paths;
+              is = get_or_default paths f.place (get_or paths f.place []) [] within_paths;
+              loaded = rw same-place at loaded;
+            }
 
       first-reads-its-name : (s : Spec) → SourceHas (IsUsedPart c q) (IsUsedList c q) s
           → ReadsItsName c q files (name_at c.tables (Some (part_place s))) (Some s)
@@ -271,22 +394,16 @@ module _ {c : Command} {q : Checked} {before after : List BoxPicture} {nodes : L
           → ReadsItsName c q files (names n) (box_at ended n).spec
       reads-its-name n lt = elim (cases_lt n (length nodes)) [
         | inl less ↦
-            rw ((ran-at nodes before after ended x.stock x.run n less).spec, named-first n less)
+            rw ((ran-at x n less).spec, named-first n less)
             (first-reads-its-name (spec_at specs n) (source-at x.copies n less))
         | inr past ↦ elim (cases_Bool (is_some (box_at ended n).spec)) [
           | inl born ↦
               let f = kept-list n past lt in
               let u = used-list n f in
-              let l = listed files nodes (length (formed nodes).wires) (formed nodes).wires
-              started ended
-              births (λ m le within. (
-                blank-kept m le (omega (arith, within, started-count)),
-                kind-kept nodes started kinds_are m le within,
-              )) started-count
-              grows n f (omega (arith, lt, ended-count, started-count)) born in
+              let l = listed n f born in
               let p : UsedPart = used_part (listed_part f.list f.place l.path) in
               let among : Contains (used_parts files c.tables q) p =
-              u.among files p (rw l.are (numbered-contains f.list.table f.list.types 1
+              u.among files p (rw l.bytes_are (numbered-contains f.list.table f.list.types 1
               (paths_in (Some l.text)) f.place l.path l.in_range l.is)) in
               rw (l.loaded, named-kept n f)
               (part-named x.copies files p u.table u.declared among, u.header_is)

@@ -1,15 +1,14 @@
--- The boxes that are kept for lists: which part each of them serves, and what it was loaded with.
-use Rattle.query_run.proofs.Imports.{AllByRecursion, Birth, Bool, BoxPicture, ColumnType, Contains, Contains-append_right, DraftNode, Files, GrowsLawfully, GrowthForm, IsBirth, IsListGrowth, List, None, Option, PartPlace, PartSpec, PlanReserve, Reserve, Some, Spec, TakeBlanks, Wire, [], all_places, ap, append-nil, append_assoc, ap₂, arith, births_of, blanks_of, both_ways, box_at, cases_Bool, cases_lt, collect_node, cond, eq-eqb, false, few-paths-in, file_bytes, filter-append, flat_map, flat_map-append, form-csv, form_at, form_kind, get_or, get_or-map, get_or-range_with_len, get_or_default, growth_list, growths_of, holds_node, inl, inr, is_place, is_some, kept_at, kept_growths, kept_places, kind_of, length, length-append, length-map, length-range_with_len, list_any, list_any-append, listed_part, map, nil_from_length, numbered_parts, part-form, part_place, paths_in, place-of, places-listed, places_for, range_with_len, refl, reserve_of, reserved_nodes, reserves_behind, reserves_from, same_kind, slice_get, sources, sources-left, spec_at, spec_read, specs_in, subst, suc, sym, take, true, unboxed, zero, ℕ, ◌++◌, ◌+◌, ◌-◌, ◌<◌, ◌==◌, ◌∙◌, ◌∷◌, ◌≡◌, ◌≢◌, ◌≤◌}
+-- The boxes that are kept for lists: which part each of them serves, and which birth took it.
+use Rattle.query_run.proofs.Imports.{AllByRecursion, Birth, BoxPicture, ColumnType, Contains, DraftNode, IsBirth, List, PartPlace, PartSpec, PlanReserve, Reserve, Some, Spec, TakeBlanks, [], all_places, ap, append-nil, append_assoc, ap₂, arith, births_of, blanks_of, cases_Bool, cases_lt, eq-eqb, false, flat_map, flat_map-append, form_kind, get_or, get_or-map-range_with_len, holds_node, inl, inr, is_place, kept_places, kind_of, length, length-append, length-map-range_with_len, list_any, list_any-append, map, numbered_parts, part_place, place-of, places_for, refl, reserve_of, reserved_nodes, reserves_from, same_kind, slice_get, slice_get-get_or, spec_at, spec_read, specs_in, suc, sym, take, true, zero, ℕ, ◌++◌, ◌+◌, ◌-◌, ◌<◌, ◌==◌, ◌∙◌, ◌∷◌, ◌≡◌, ◌≢◌, ◌≤◌}
 use Rattle.query_model.specs.declared.processor_spec.Kind.TheVariants as kind
 use Rattle.query_model.specs.declared.processor_spec.Spec.TheVariants as spec
-use Rattle.query_run.proofs.Reserves.{IsListReserve, held-of, holds-one, kept-nodes, kept-of, list_kept, past-of}
+use Rattle.query_run.proofs.Reserves.{kept-nodes, list_kept}
 
 -- ---- which list a box is kept for
 
 list-of : (s : Spec) → same_kind (kind_of s) kind.List ≡ true
     → (list : PartSpec) × (s ≡ spec.List list)
-list-of (spec.List list) e = (list, refl)
-list-of s e = absurd cc
+list-of s e = grind arith
 
 -- behind so many nodes, node q is one of those that are kept for a list among these
 pub record IsKeptFor (n nodes : ℕ) (zs : List DraftNode) (q : ℕ) : Type 0 where
@@ -28,17 +27,15 @@ kept-later : (n nodes behind k : ℕ) (z : DraftNode) (zs : List DraftNode) (q :
     → IsKeptFor (suc n) behind zs q → IsKeptFor n nodes (z ∷ zs) q
 unfolding spec_at
 kept-later n nodes behind k z zs q same each h =
-    let within = h.in_range in
-    let is = h.is in
     let more = each (take h.lister zs) in
     record {
       lister = suc h.lister;
-      in_range = omega (arith, within);
+      in_range = grind (arith, h.in_range);
       list = h.list;
       reads = h.reads;
       place = h.place;
       place_in_range = h.place_in_range;
-      is = omega (arith, is, same, more);
+      is = grind (arith, h.is, same, more);
     }
 
 pub kept-for : (n nodes : ℕ) (zs : List DraftNode) (q : ℕ) → nodes ≤ q
@@ -74,29 +71,12 @@ kept-for n nodes (z ∷ zs) q le lt = elim (cases_Bool (same_kind (kind_of z.spe
 pub slice-left : {A : Type 0} (xs ys : List A) (k : ℕ) → k < length xs
     → slice_get (xs ++ ys) k ≡ slice_get xs k
 slice-left [] ys k lt = absurd (omega (arith, lt))
-slice-left (x ∷ xs) ys zero lt = refl
-slice-left (x ∷ xs) ys (suc k) lt = slice-left xs ys k (omega (arith, lt))
+slice-left (x ∷ xs) ys k lt = grind (arith, slice-left xs ys)
 
 pub slice-right : {A : Type 0} (xs ys : List A) (k : ℕ)
     → slice_get (xs ++ ys) (length xs + k) ≡ slice_get ys k
-slice-right [] ys k = let same : 0 + k ≡ k = omega arith in ap (λ n. slice_get ys n) same
-slice-right (x ∷ xs) ys k =
-    let next : suc (length xs) + k ≡ suc (length xs + k) = omega arith in
-    ap (λ n. slice_get (x ∷ (xs ++ ys)) n) next ∙ slice-right xs ys k
-
-kept-place-at : (t k n j : ℕ) → j < n
-    → slice_get (kept_places t k n) j ≡ Some (record { table = t; part = j + k })
-kept-place-at t k zero j lt = absurd (omega (arith, lt))
-kept-place-at t k (suc n) zero lt =
-    let same : k ≡ 0 + k = omega arith in ap (λ m. Some (record { table = t; part = m })) same
-kept-place-at t k (suc n) (suc j) lt =
-    let next : j + (k + 1) ≡ suc j + k = omega arith in
-    kept-place-at t (k + 1) n j (omega (arith, lt))
-    ∙ ap (λ m. Some (record { table = t; part = m })) next
-
-kept-places-length : (t k n : ℕ) → length (kept_places t k n) ≡ n
-kept-places-length t k zero = refl
-kept-places-length t k (suc n) = ap suc (kept-places-length t (k + 1) n)
+slice-right [] ys k = grind arith
+slice-right (x ∷ xs) ys k = grind (arith, slice-right xs ys k)
 
 abbrev pub kept_of : List Spec → PlanReserve → List PartPlace
 kept_of specs r = kept_places (part_place (spec_read specs r.node)).table 1 (length r.kinds)
@@ -105,9 +85,7 @@ kept-length : (specs : List Spec) (rs : List PlanReserve)
     → length (flat_map (kept_of specs) rs) ≡ reserved_nodes rs
 kept-length specs [] = refl
 kept-length specs (r ∷ rs) =
-    let one = kept-places-length (part_place (spec_read specs r.node)).table 1 (length r.kinds) in
-    let both = length-append (kept_of specs r) (flat_map (kept_of specs) rs) in
-    omega (arith, one, both, kept-nodes r rs, kept-length specs rs)
+    grind (arith, length-append, length-map-range_with_len, kept-nodes r rs, kept-length specs rs)
 
 -- what is kept for the list at place m of the nodes, among what is kept for the others
 reserves-split : (n : ℕ) (zs : List DraftNode) (m k : ℕ) → m < length zs
@@ -116,13 +94,10 @@ reserves-split : (n : ℕ) (zs : List DraftNode) (m k : ℕ) → m < length zs
     × (reserves_from n zs ≡ reserves_from n (take m zs) ++ list_kept k ∷ later)
 unfolding spec_at
 reserves-split n [] m k lt list at = absurd (omega (arith, lt))
-reserves-split n (z ∷ zs) zero k lt list at =
-    let e : same_kind (kind_of z.spec) kind.List ≡ true = list in
-    let same : n ≡ k = omega (arith, at) in
-    (reserves_from (suc n) zs, rw e (ap (λ i. list_kept i ∷ reserves_from (suc n) zs) same))
+reserves-split n (z ∷ zs) zero k lt list at = (reserves_from (suc n) zs, grind arith)
 reserves-split n (z ∷ zs) (suc m) k lt list at =
     let h = reserves-split (suc n) zs m k (omega (arith, lt)) list (omega (arith, at)) in
-    (h.0, ap (λ l. kept_at n z ++ l) h.1 ∙ sym (append_assoc (kept_at n z) _ _))
+    (h.0, grind (arith, h.1, append_assoc))
 
 pub kept-place : (specs : List Spec) (zs : List DraftNode) (m place : ℕ) → m < length zs
     → same_kind (kind_of (spec_at (specs_in zs) m)) kind.List ≡ true → place < 32
@@ -133,13 +108,16 @@ kept-place specs zs m place lt list within =
     let s = reserves-split 0 zs m m lt list (omega arith) in
     let before : List PlanReserve = reserves_from 0 (take m zs) in
     let t : ℕ = (part_place (spec_read specs m)).table in
-    let len = kept-places-length t 1 32 in
+    let f : ℕ → PartPlace = λ part. record { table = t; part = part } in
+    let len = length-map-range_with_len f 1 32 in
+    let next : 1 + place ≡ place + 1 = omega arith in
     ap₂ (λ l k. slice_get l (k + place))
     (ap (flat_map (kept_of specs)) s.1 ∙ flat_map-append (kept_of specs) before (list_kept m ∷ s.0))
     (sym (kept-length specs before))
     ∙ slice-right (flat_map (kept_of specs) before) _ place
     ∙ slice-left (kept_places t 1 32) _ place (omega (arith, within, len))
-    ∙ kept-place-at t 1 32 place within
+    ∙ slice_get-get_or (kept_places t 1 32) place (f 0) (omega (arith, within, len))
+    ∙ ap (λ p. Some p) (get_or-map-range_with_len f 1 32 place (place + 1) (f 0) within next)
 
 -- ---- the birth that took a node
 
@@ -148,16 +126,10 @@ pub numbered-contains : (t : ℕ) (types : List ColumnType) (k : ℕ) (paths : L
     → Contains (numbered_parts t types k paths)
     (record { table = t; part = j + k; types = types; path = path })
 numbered-contains t types k [] j path lt is = absurd (omega (arith, lt))
-numbered-contains t types k (p ∷ paths) zero path lt is =
-    let same : k ≡ 0 + k = omega arith in
-    (0, omega arith, ap₂ (λ m q. record { table = t; part = m; types = types; path = q }) same is)
+numbered-contains t types k (p ∷ paths) zero path lt is = (0, omega arith, grind arith)
 numbered-contains t types k (p ∷ paths) (suc j) path lt is =
-    let next : j + (k + 1) ≡ suc j + k = omega arith in
-    subst (λ m. Contains (numbered_parts t types k (p ∷ paths))
-    (record { table = t; part = m; types = types; path = path })) next
-    (Contains-append_right (record { table = t; part = k; types = types; path = p } ∷ [])
-    (numbered_parts t types (k + 1) paths) _
-    (numbered-contains t types (k + 1) paths j path (omega (arith, lt)) is))
+    let rest = numbered-contains t types (k + 1) paths j path (omega (arith, lt)) is in
+    (suc rest.0, omega (arith, rest.1), grind (arith, rest.2))
 
 -- no new node of the birth is this one
 abbrev pub Away : ℕ → Birth → Type 0
@@ -234,13 +206,8 @@ module _ (R : List Reserve) (before after : List BoxPicture) where
       → AllByRecursion (IsBirth R before after) births → births_of n births ≡ []
       → AllByRecursion P births
   others-all n P each [] h none = tt
-  others-all n P each (b ∷ births) h none = elim (cases_Bool (b.expander == n)) [
-    | inl same ↦ let some : b ∷ births_of n births ≡ [] = rw same at none in absurd cc
-    | inr other ↦ (
-      each b h.0 (λ e. both_ways _ other (eq-eqb b.expander n e)),
-      others-all n P each births h.1 (rw other at none),
-    )
-  ]
+  others-all n P each (b ∷ births) h none =
+      grind (arith, eq-eqb, others-all n P each births)
 
   -- another birth takes no node that the reserve of node n holds
   pub away-held : ((q m n : ℕ) → holds_node q (reserve_of R m) ≡ true
@@ -248,175 +215,4 @@ module _ (R : List Reserve) (before after : List BoxPicture) where
       → holds_node q (reserve_of R n) ≡ true → (b : Birth) → IsBirth R before after b
       → b.expander ≢ n → Away q b
   away-held one n q held b i other k within e =
-      other (one q b.expander n (rw e at (i.reserved k within)) held)
-
--- ---- a list's births
-
-at-most-one : (p : BoxPicture) → length (kept_growths p) ≤ 1
-at-most-one p = go (is_some p.spec) p.growth
-  where
-    go : (b : Bool) (g : Option GrowthForm) → length (cond b (growth_list g) []) ≤ 1
-    go true None = omega arith
-    go true (Some g) = omega arith
-    go false g = omega arith
-
--- so many nodes, and blank sources behind them that are kept for lists, began
-module _ (files : Files) (nodes : List DraftNode) (edges : ℕ) (wires : List Wire)
-    (before after : List BoxPicture) (births : List Birth)
-    (sources_kept : (q : ℕ) → length nodes ≤ q → q < length before
-    → ((box_at before q).spec ≡ None) × ((box_at before q).kind ≡ kind.Csv))
-    (count : length before ≡ length nodes + reserved_nodes (reserves_from 0 nodes))
-    (g : GrowsLawfully files nodes wires
-    (reserves_behind (length nodes) edges (reserves_from 0 nodes)) before after births) where
-  abbrev R : List Reserve
-  R = reserves_behind (length nodes) edges (reserves_from 0 nodes)
-
-  one-holder : (q m n : ℕ) → holds_node q (reserve_of R m) ≡ true
-      → holds_node q (reserve_of R n) ≡ true → m ≡ n
-  one-holder q m n h k = holds-one q m n (length nodes) edges (reserves_from 0 nodes) h k
-
-  -- what a loaded box that is kept for a list reads: the part of its place
-  pub record IsListed (q : ℕ) (f : IsKeptFor 0 (length nodes) nodes q) : Type 0 where
-    pub text : List ℕ
-    pub are : file_bytes files f.list.path ≡ Some text
-    pub path : List ℕ
-    pub in_range : f.place < length (paths_in (Some text))
-    pub is : get_or (paths_in (Some text)) f.place path ≡ path
-    pub loaded : (box_at after q).spec ≡ Some (spec.Csv (listed_part f.list f.place path))
-
-  module _ (q : ℕ) (f : IsKeptFor 0 (length nodes) nodes q) (within : q < length before)
-      (born : is_some (box_at after q).spec ≡ true) where
-    abbrev m : ℕ
-    m = f.lister
-
-    reserve : IsListReserve (reserve_of R m)
-        (length nodes + reserved_nodes (reserves_from 0 (take m nodes)))
-    reserve = kept-of nodes edges m f.list f.in_range f.reads
-
-    abbrev first : ℕ
-    first = (reserve_of R m).first_node
-
-    at-place : q ≡ first + f.place
-    at-place = let is = f.is in let e = reserve.first_node in omega (arith, is, e)
-
-    -- each node of the list's reserve is held by it, and was a blank source
-    held : (k : ℕ) → k < 32 → holds_node (first + k) (reserve_of R m) ≡ true
-    held = held-of nodes edges m f.list f.in_range f.reads
-
-    left : (k : ℕ) → k < 32 → ((box_at before (first + k)).spec ≡ None)
-        × ((box_at before (first + k)).kind ≡ kind.Csv)
-    left k lt =
-        let w = past-of nodes edges m f.list f.in_range f.reads k lt in
-        sources_kept (first + k) w.0 (let high = w.1 in omega (arith, high, count))
-
-    taken : IsTaken R before after births q
-    taken = elim (cases_Bool (is_place births q)) [
-      | inl new ↦ taken-by R before after births q g.are.each new
-      | inr old ↦
-          let same : first + f.place ≡ q = sym at-place in
-          let none = g.are.stay_blank q (rw same at (left f.place f.place_in_range).0) old in
-          absurd (both_ways _ (ap is_some none) born)
-    ]
-
-    abbrev birth : Birth
-    birth = taken.birth
-
-    expander : birth.expander ≡ m
-    expander = one-holder q birth.expander m
-        (rw taken.is at (taken.is_birth.reserved taken.place taken.in_range))
-        (subst (λ n. holds_node n (reserve_of R m) ≡ true) (sym at-place)
-        (held f.place f.place_in_range))
-
-    lister-loaded : (box_at after m).spec ≡ Some (spec.List f.list)
-    unfolding spec_at
-    lister-loaded =
-        let z : DraftNode = get_or nodes m collect_node in
-        let at : spec_at (specs_in nodes) m ≡ z.spec =
-        get_or-map (λ (n : DraftNode). n.spec) nodes m collect_node spec.Collect f.in_range in
-        g.specs m z f.in_range (get_or_default nodes m z collect_node f.in_range)
-        ∙ ap (λ s. Some s) (sym at ∙ f.reads)
-
-    lister-lawful : (box_at after m).lawful ≡ true
-    lister-lawful = g.lawful m (let few = g.few in let lt = f.in_range in omega (arith, few, lt))
-
-    may : IsListGrowth f.list (Some files) birth.growth
-    may =
-        let told = g.told m (spec.List f.list)
-        (let few = g.few in let lt = f.in_range in omega (arith, few, lt)) lister-loaded tt in
-        rw (expander, lister-loaded, told) at (taken.is_birth.may_grow (rw expander lister-lawful))
-
-    abbrev paths : List (List ℕ)
-    paths = paths_in (Some may.text)
-
-    none-earlier : births_of m taken.earlier ≡ []
-    none-earlier =
-        let one = at-most-one (box_at after m) in
-        let all = length-map (births_of m births) (λ (b : Birth). b.growth) in
-        let parts = ap (λ l. length (births_of m l)) taken.split
-        ∙ ap (λ l. length l)
-        (filter-append (λ (b : Birth). b.expander == m) taken.earlier (birth ∷ taken.later))
-        ∙ length-append (births_of m taken.earlier) (births_of m (birth ∷ taken.later)) in
-        let some : 1 ≤ length (births_of m (birth ∷ taken.later)) =
-        rw (eq-eqb birth.expander m expander) (omega arith) in
-        let born : growths_of m births ≢ [] =
-        (λ none. let len = ap (λ l. length l) none in omega (arith, len, all, parts, some)) in
-        let kept = g.are.grew m lister-lawful born
-        ∙ ap (λ l. l ++ growths_of m births) (g.ungrown m) in
-        let len = ap (λ l. length l) kept in
-        nil_from_length (births_of m taken.earlier) (omega (arith, one, len, all, parts, some))
-
-    blanks : blanks_of before ([] ++ taken.earlier) (reserve_of R birth.expander).first_node
-        (reserve_of R birth.expander).nodes ≡ sources first 32
-    blanks =
-        let few = reserve.nodes in
-        rw (expander, few) (sources-left before taken.earlier first 32 (λ k lt. (
-          none-placed (first + k) taken.earlier (others-all R before after m (Away (first + k))
-              (away-held R before after one-holder m (first + k) (held k lt)) taken.earlier
-              taken.each none-earlier),
-          left k lt,
-        )))
-
-    places : birth.places ≡ range_with_len first (length paths)
-    places =
-        let t = takes-at R before after [] taken.earlier birth taken.later
-        (subst (TakeBlanks R before []) taken.split g.are.take) in
-        t.1 ∙ ap (λ l. places_for (map form_kind birth.growth.specs) l t.0) blanks
-        ∙ ap (λ (h : GrowthForm). places_for (map form_kind h.specs) (sources first 32) t.0) may.is
-        ∙ places-listed f.list 0 paths first 32 t.0 (few-paths-in (Some may.text))
-
-    in-paths : taken.place < length paths
-    in-paths =
-        let lt = taken.in_range in
-        let len = ap (λ l. length l) places ∙ length-range_with_len first (length paths) in
-        omega (arith, lt, len)
-
-    same-place : taken.place ≡ f.place
-    same-place =
-        let at = sym taken.is ∙ ap (λ l. get_or l taken.place 0) places
-        ∙ get_or-range_with_len first (length paths) taken.place 0 in-paths in
-        omega (arith, at, at-place)
-
-    pub listed : IsListed q f
-    listed =
-        let path : List ℕ = get_or paths taken.place [] in
-        let is : get_or paths taken.place path ≡ path =
-        get_or_default paths taken.place path [] in-paths in
-        let form : form_at birth.growth.specs taken.place
-        ≡ unboxed (spec.Csv (listed_part f.list taken.place path)) =
-        ap (λ (h : GrowthForm). form_at h.specs taken.place) may.is
-        ∙ part-form f.list 0 paths taken.place path in-paths is
-        ∙ (let none : 0 + taken.place ≡ taken.place = omega arith in
-        ap (λ j. unboxed (spec.Csv (listed_part f.list j path))) none) in
-        let loaded =
-        rw taken.is at (form-csv (box_at after (get_or birth.places taken.place 0)).spec
-        (form_at birth.growth.specs taken.place) (listed_part f.list taken.place path) form
-        (taken.is_birth.born taken.place taken.in_range)) in
-        let within_paths = rw same-place at in-paths in
-        record {
-          text = may.text;
-          are = may.are;
-          path = get_or paths f.place [];
-          in_range = within_paths;
-          is = get_or_default paths f.place (get_or paths f.place []) [] within_paths;
-          loaded = rw same-place at loaded;
-        }
+      grind (arith, i.reserved k within, one)

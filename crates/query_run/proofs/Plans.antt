@@ -1,5 +1,5 @@
 -- The nodes of a checked query's plan, and the boxes that they take from a rack.
-use Rattle.query_run.proofs.Imports.{AllByRecursion, AreLawfulOver, BoxPicture, Checked, Command, Contains, Contains-append_right, DraftNode, Files, HasBoxes, HasStock, IsCheckedCommand, IsListNamed, IsListOf, IsPartNamed, IsPartOf, IsQueryPlan, IsSmall, IsSourceKind, IsStep, IsWithinLimits, Kind, KnownPorts, List, NamesFewPaths, PartSpec, PlanReserve, RanWith, ReadsNamed, RunsPlan, Some, SourceHas, Spec, TableDecl, UsedPart, [], ap, ap₂, arith, at-recursion, both_ways, box_at, boxes-counted, boxes_for, boxes_reserved, cases_lt, collect_node, cond, count_by, ended-later, flat_map, forms, get_or, get_or-map, get_or_default, in-front, inl, inr, is-small, is_some, join_use, joined-parts, kind_of, kinds-counted, kinds-same, kinds_for, kinds_of, kinds_reserved, length, length-map, map, name_at, name_of, part_place, parts_used, plan-needs, plan-steps, plan_kinds, plan_nodes, plan_of, query-plan, refl, reserves-same, reserves_from, same_kind, slice_get, spec_at, specs_in, subst, suc, sum_by, sum_by-append, sum_by-cons, sym, table-parts, taken-has, taken_at, true, used_part, used_parts, used_tables, zero, ℕ, ◌++◌, ◌<◌, ◌∙◌, ◌∷◌, ◌≡◌}
+use Rattle.query_run.proofs.Imports.{AllByRecursion, AreLawfulOver, BoxPicture, Checked, Command, Contains, Contains-append_right, DraftNode, Files, HasBoxes, HasStock, IsCheckedCommand, IsListNamed, IsListOf, IsPartNamed, IsPartOf, IsQueryPlan, IsRunnable, IsSmall, IsSourceKind, IsStep, IsWithinLimits, Kind, KnownPorts, List, NamesFewPaths, PartSpec, PlanReserve, RanWith, ReadsNamed, RunsPlan, Some, SourceHas, Spec, TableDecl, UsedPart, [], ap, arith, at-recursion, both_ways, box_at, boxes-counted, boxes_for, boxes_reserved, cases_lt, collect_node, cond, count_by, ended-later, flat_map, forms, get_or, get_or-map, get_or_default, in-front, inl, inr, is-small, is_some, join_use, joined-parts, kind_of, kinds-counted, kinds-same, kinds_for, kinds_of, kinds_reserved, length, length-map, map, name_at, name_of, part_place, parts_used, plan-needs, plan-steps, plan_nodes, plan_of, query-plan, refl, reserves-same, reserves_from, same_kind, slice_get, spec_at, specs_in, subst, sum_by, sum_by-append, sum_by-cons, sym, table-parts, taken-has, taken_at, true, used_part, used_parts, used_tables, ℕ, ◌<◌, ◌∙◌, ◌∷◌, ◌≡◌}
 use Rattle.query_model.specs.declared.processor_spec.Spec.TheVariants as spec
 use Rattle.query_run.proofs.Commands.{typed_by_tables}
 
@@ -8,34 +8,33 @@ use Rattle.query_run.proofs.Commands.{typed_by_tables}
 reserved-counted : (k : Kind) (rs : List PlanReserve)
     → count_by (λ j. same_kind j k) (kinds_reserved rs) ≡ sum_by (boxes_reserved k) rs
 reserved-counted k [] = refl
-reserved-counted k (r ∷ rs) =
-    omega (
-      arith,
-      sum_by-append (λ (j : Kind). cond (same_kind j k) 1 0) r.kinds (kinds_reserved rs),
-      sum_by-cons (boxes_reserved k) r rs,
-      reserved-counted k rs,
-    )
-
--- a rack with the boxes that the query needs has the stock of its plan
-pub plan_stock : (c : Command) (q : Checked) (boxes : List BoxPicture)
-    → HasBoxes (boxes_for c q) boxes → HasStock (plan_kinds c q) boxes
-plan_stock c q boxes enough k =
-    let nodes : List DraftNode = plan_nodes (plan_of c q) in
-    omega (
-      arith,
-      sum_by-append (λ (j : Kind). cond (same_kind j k) 1 0) (kinds_of (specs_in nodes))
-          (kinds_reserved (reserves_from 0 nodes)),
-      reserved-counted k (reserves_from 0 nodes),
-      kinds-counted k nodes,
-      boxes-counted k 0 nodes,
-      plan-needs q c.tables c.threads c.chunk_rows c.header k,
-      enough k,
-    )
+reserved-counted k (r ∷ rs) = search (arith, sum_by-append, sum_by-cons, reserved-counted k rs)
 
 -- copies of nodes take boxes of the same kinds
 pub kinds-for-same : (xs ys : List DraftNode) → forms xs ≡ forms ys → kinds_for xs ≡ kinds_for ys
-kinds-for-same xs ys e = ap₂ (λ ks rs. ks ++ kinds_reserved rs) (kinds-same xs ys e)
-    (reserves-same xs ys e 0)
+kinds-for-same xs ys e = grind (arith, kinds-same, reserves-same)
+
+-- a rack with the boxes that the query needs has the stock of copies of its plan
+pub plan_stock : (c : Command) (q : Checked) (nodes : List DraftNode) (boxes : List BoxPicture)
+    → forms nodes ≡ forms (plan_nodes (plan_of c q)) → HasBoxes (boxes_for c q) boxes
+    → HasStock (kinds_for nodes) boxes
+plan_stock c q nodes boxes same enough =
+    subst (λ ks. HasStock ks boxes) (sym (kinds-for-same nodes steps same)) stock
+  where
+    steps : List DraftNode
+    steps = plan_nodes (plan_of c q)
+
+    stock : HasStock (kinds_for steps) boxes
+    stock k = omega (
+      arith,
+      sum_by-append (λ (j : Kind). cond (same_kind j k) 1 0) (kinds_of (specs_in steps))
+          (kinds_reserved (reserves_from 0 steps)),
+      reserved-counted k (reserves_from 0 steps),
+      kinds-counted k steps,
+      boxes-counted k 0 steps,
+      plan-needs q c.tables c.threads c.chunk_rows c.header k,
+      enough k,
+    )
 
 -- ---- the parts that nodes read
 
@@ -62,8 +61,7 @@ module _ {c : Command} {q : Checked} {nodes : List DraftNode} (copies : AreCopie
       (let some = copies.within.some_threads in omega (arith, some))
 
   pub small_plan : NamesFewPaths c q → IsSmall (plan_of c q)
-  small_plan few =
-      is-small q c.tables c.threads c.chunk_rows c.header few copies.within.few_threads
+  small_plan few = grind (arith, is-small)
 
   -- each node's kind is known, and a part that it reads is one that the query uses
   pub steps_are : AllByRecursion (IsStep (IsUsedPart c q) (IsUsedList c q)) nodes
@@ -89,7 +87,7 @@ module _ {c : Command} {q : Checked} {nodes : List DraftNode} (copies : AreCopie
   spec-is : (n : ℕ) → n < length nodes
       → spec_at (specs_in nodes) n ≡ (get_or nodes n collect_node).spec
   unfolding spec_at
-  spec-is n lt = get_or-map (λ (z : DraftNode). z.spec) nodes n collect_node spec.Collect lt
+  spec-is n lt = grind (arith, get_or-map)
 
   -- what a node reads is a part, or a list, that the query uses
   pub source-at : (n : ℕ) → n < length nodes
@@ -130,12 +128,7 @@ module _ {c : Command} {q : Checked} {nodes : List DraftNode} (copies : AreCopie
       → slice_get c.tables p.table ≡ Some table → Contains (used_parts files c.tables q) p
       → IsPartNamed c q files
       (name_at c.tables (Some (record { table = p.table; part = p.part }))) p
-  part-named files p table declared used = record {
-    used = used;
-    table = table;
-    declared = declared;
-    named = ap (λ t. record { table = name_of t; part = p.part }) declared;
-  }
+  part-named files p table declared used = grind arith
 
   -- a node of a source's kind reads the part or list with the name that is noted of it
   pub reads-named : (n : ℕ) → n < length nodes → IsSourceKind (kind_of (spec_at (specs_in nodes) n))
@@ -158,58 +151,61 @@ pub place-at : (specs : List Spec) (n : ℕ) → n < length specs
     → slice_get (map part_place specs) n ≡ Some (part_place (spec_at specs n))
 unfolding spec_at
 place-at [] n lt = absurd (omega (arith, lt))
-place-at (s ∷ specs) zero lt = refl
-place-at (s ∷ specs) (suc n) lt = place-at specs n (omega (arith, lt))
+place-at (s ∷ specs) n lt = grind (arith, place-at specs)
 
 -- ---- the boxes as a run left them
 
-module _ (nodes : List DraftNode) (before after ended : List BoxPicture)
-    (stock : HasStock (kinds_for nodes) before)
-    (run : RunsPlan (specs_in nodes) (kinds_reserved (reserves_from 0 nodes)) before after
-    ended) where
+ran-kind : (s t : Spec) (p q : BoxPicture) → RanWith t p q → q.spec ≡ Some s → kind_of s ≡ q.kind
+ran-kind s t p q r is = grind arith
+
+-- such copies that ran over a rack within the limits of their plan
+pub record RanCopies (c : Command) (q : Checked) (before after : List BoxPicture)
+    (nodes : List DraftNode) (ended : List BoxPicture) : Type 0 where
+  pub copies : AreCopies c q nodes
+  pub runnable : IsRunnable c q before
+  pub run : RunsPlan (specs_in nodes) (kinds_reserved (reserves_from 0 nodes)) before after ended
+
+module _ {c : Command} {q : Checked} {before after : List BoxPicture} {nodes : List DraftNode}
+    {ended : List BoxPicture} (x : RanCopies c q before after nodes ended) where
   abbrev specs : List Spec
   specs = specs_in nodes
 
   abbrev kept : List Kind
   kept = kinds_reserved (reserves_from 0 nodes)
 
+  pub stock : HasStock (kinds_for nodes) before
+  stock = plan_stock c q nodes before x.copies.same x.runnable.boxes
+
   -- the box that a node ran
   pub ran-at : (n : ℕ) → n < length nodes
       → RanWith (spec_at specs n) (taken_at (kinds_for nodes) before n) (box_at ended n)
-  ran-at n lt = run.ran n (rw length-map lt)
+  ran-at n lt = x.run.ran n (rw length-map lt)
 
   pub ended-kind : (n : ℕ) → n < length nodes → (box_at ended n).kind ≡ kind_of (spec_at specs n)
-  ended-kind n lt = let r = ran-at n lt in r.kind ∙ sym r.of_kind
+  ended-kind n lt = grind (arith, ran-at)
 
   -- a loaded box is of the kind of its spec
   pub loaded-kind : (n : ℕ) (s : Spec) → n < length ended → (box_at ended n).spec ≡ Some s
       → kind_of s ≡ (box_at ended n).kind
   loaded-kind n s lt is = elim (cases_lt n (length nodes)) [
-    | inl less ↦
-        let r = ran-at n less in
-        let e : Some (spec_at specs n) ≡ Some s = sym r.spec ∙ is in
-        let same : spec_at specs n ≡ s = cc in
-        ap kind_of (sym same) ∙ r.of_kind ∙ sym r.kind
-    | inr past ↦ elim (run.ran_kept n (rw length-map past) lt) [
+    | inl less ↦ ran-kind s _ _ _ (ran-at n less) is
+    | inr past ↦ elim (x.run.ran_kept n (rw length-map past) lt) [
       | inl still ↦ absurd (both_ways _ (ap is_some still.1) (ap is_some is))
-      | inr r ↦
-          let e : Some r.0 ≡ Some s = sym r.1.spec ∙ is in
-          let same : r.0 ≡ s = cc in
-          ap kind_of (sym same) ∙ r.1.of_kind ∙ sym r.1.kind
+      | inr r ↦ ran-kind s r.0 _ _ r.1 is
     ]
   ]
 
   module _ (files : Files) (honest : AreLawfulOver files before) (n : ℕ)
       (lt : n < length ended) where
     pub ended-lawful : (box_at ended n).lawful ≡ true
-    ended-lawful = (ended-later specs kept before after ended run n lt).lawful
-        ∙ taken-has specs kept before after ended run (λ (p : BoxPicture). p.lawful ≡ true) stock
+    ended-lawful = (ended-later specs kept before after ended x.run n lt).lawful
+        ∙ taken-has specs kept before after ended x.run (λ (p : BoxPicture). p.lawful ≡ true) stock
         honest.lawful n lt
 
     -- a source tells the files of an honest rack
     pub ended-files : IsSourceKind (box_at ended n).kind → (box_at ended n).files ≡ Some files
     ended-files source =
-        let l = ended-later specs kept before after ended run n lt in
-        l.files ∙ taken-has specs kept before after ended run
-        (λ (p : BoxPicture). IsSourceKind p.kind → p.files ≡ Some files) stock honest.told n lt
-        (subst IsSourceKind l.kind source)
+        let l = ended-later specs kept before after ended x.run n lt in
+        let told = taken-has specs kept before after ended x.run
+        (λ (p : BoxPicture). IsSourceKind p.kind → p.files ≡ Some files) stock honest.told n lt in
+        grind (arith, l, told)

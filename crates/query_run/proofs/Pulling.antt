@@ -1,11 +1,11 @@
 -- The rows that the boxes of a rack pulled in a run, kind by kind.
-use Rattle.query_run.proofs.Imports.{All, Bool, BoxPicture, HasFullCount, HasStock, Kind, List, PulledMore, RunsPlan, Some, Spec, [], ap, arith, both_ways, cases_Bool, box_at, cases_lt, cond, count_by, ended-later, false, first_box_of, get_or, get_or-append-add, get_or-map, inl, inr, is_of, kind_of, kinds_of, kinds_taken, left_after, length, length-append, length-map, no_box, pulled_by_boxes, pulled_since, refl, same_kind, some-rest, stock-here, stock-step, subst, suc, sym, taken-kinds, taken-length, taken_for, true, without_first_box, ℕ, ◌++◌, ◌+◌, ◌-◌, ◌<◌, ◌∙◌, ◌∷◌, ◌≡◌, ◌≤◌, ◌⊎◌}
+use Rattle.query_run.proofs.Imports.{All, Bool, BoxPicture, HasFullCount, HasStock, Kind, List, PulledMore, RunsPlan, Some, Spec, [], ap, arith, both_ways, box_at, cases_Bool, cases_lt, cond, count_by, ended-later, false, first_box_of, get_or, get_or-append-add, get_or-map, inl, inr, is_of, kind_of, kinds_of, kinds_taken, left_after, length, length-append, length-map, no_box, pulled_by_boxes, pulled_since, refl, same_kind, some-rest, stock-here, stock-step, subst, suc, sym, taken-kinds, taken-length, taken_for, true, without_first_box, ℕ, ◌++◌, ◌+◌, ◌-◌, ◌<◌, ◌∙◌, ◌∷◌, ◌≡◌, ◌≤◌, ◌⊎◌}
 use Rattle.query_model.specs.declared.processor_spec.Kind.TheVariants as kind
 
 pulled-append : (k : Kind) (xs ys : List BoxPicture)
     → pulled_by_boxes k (xs ++ ys) ≡ pulled_by_boxes k xs + pulled_by_boxes k ys
 pulled-append k [] ys = omega arith
-pulled-append k (x ∷ xs) ys = let rest = pulled-append k xs ys in omega (arith, rest)
+pulled-append k (x ∷ xs) ys = omega (arith, pulled-append k xs ys)
 
 -- taking a box out takes its rows out
 pulled-without : (k j : Kind) (boxes : List BoxPicture) → 0 < count_by (is_of j) boxes
@@ -25,9 +25,11 @@ pub pulled-taken : (k : Kind) (kinds : List Kind) (boxes : List BoxPicture) → 
     (left_after kinds boxes)
 pulled-taken k [] boxes h = omega arith
 pulled-taken k (j ∷ kinds) boxes h =
-    let first = pulled-without k j boxes (stock-here j kinds boxes h) in
-    let rest = pulled-taken k kinds (without_first_box j boxes) (stock-step j kinds boxes h) in
-    omega (arith, first, rest)
+    omega (
+      arith,
+      pulled-without k j boxes (stock-here j kinds boxes h),
+      pulled-taken k kinds (without_first_box j boxes) (stock-step j kinds boxes h),
+    )
 
 -- ---- taken boxes, as a run left them, and as they were given back
 
@@ -39,15 +41,11 @@ pub record IsGivenMore (k : Kind) (p q r : BoxPicture) : Type 0 where
 
 share-more : (b : Bool) (m n o : ℕ) → (b ≡ true → o ≡ m + n)
     → cond b o 0 ≡ cond b m 0 + cond b n 0
-share-more true m n o e = e refl
-share-more false m n o e = refl
+share-more b m n o e = grind arith
 
 given-more : (k : Kind) (p q r : BoxPicture) → IsGivenMore k p q r
     → cond (is_of k r) r.pulled 0 ≡ cond (is_of k p) p.pulled 0 + cond (is_of k q) q.notes.pulled 0
-given-more k p q r h =
-    ap (λ j. cond (same_kind j k) r.pulled 0) h.given
-    ∙ share-more (is_of k p) p.pulled q.notes.pulled r.pulled h.pulled
-    ∙ ap (λ j. cond (is_of k p) p.pulled 0 + cond (same_kind j k) q.notes.pulled 0) (sym h.ran)
+given-more k p q r h = grind (arith, share-more)
 
 pub pulled-given : (k : Kind) (taken ended given : List BoxPicture) → length ended ≡ length taken
     → length given ≡ length taken
@@ -57,10 +55,12 @@ pub pulled-given : (k : Kind) (taken ended given : List BoxPicture) → length e
 unfolding box_at
 pulled-given k [] [] [] el gl each = refl
 pulled-given k (p ∷ taken) (q ∷ ended) (r ∷ given) el gl each =
-    let first = given-more k p q r (each 0 (omega arith)) in
-    let rest = pulled-given k taken ended given (omega (arith, el)) (omega (arith, gl))
-    (λ n lt. each (suc n) (omega (arith, lt))) in
-    omega (arith, first, rest)
+    omega (
+      arith,
+      given-more k p q r (each 0 (omega arith)),
+      pulled-given k taken ended given (omega (arith, el)) (omega (arith, gl))
+          (λ n lt. each (suc n) (omega (arith, lt))),
+    )
 pulled-given k taken ended given el gl each = absurd (omega (arith, el, gl))
 
 at-append : (xs ys : List BoxPicture) (n : ℕ)
@@ -84,11 +84,7 @@ module _ (specs : List Spec) (kept : List Kind) (before after ended : List BoxPi
   taken = taken_for kinds before
 
   same-count : length taken ≡ length ended
-  same-count =
-      let count = run.count in
-      let all = length-append (kinds_of specs) kept in
-      let each = length-map specs kind_of in
-      omega (arith, taken-length kinds before, count, all, each)
+  same-count = grind (arith, run.count, length-append, length-map, taken-length)
 
   -- a box that is kept for another node isn't of the kind
   other-kind : (n : ℕ) → length specs ≤ n → n < length taken → is_of k (box_at taken n) ≡ false
@@ -107,10 +103,7 @@ module _ (specs : List Spec) (kept : List Kind) (before after ended : List BoxPi
       ∙ others (n - length specs) kind.Csv (omega (arith, le, lt, len, all, each))
 
   pub kept-other : (n : ℕ) → length specs ≤ n → n < length ended → is_of k (box_at ended n) ≡ false
-  kept-other n le lt =
-      let in_taken : n < length taken = subst (λ m. n < m) (sym same-count) lt in
-      ap (λ j. same_kind j k) (ended-later specs kept before after ended run n lt).kind
-      ∙ other-kind n le in_taken
+  kept-other n le lt = grind (arith, same-count, ended-later, other-kind)
 
   each-given : (n : ℕ) → n < length taken
       → IsGivenMore k (box_at taken n) (box_at ended n) (box_at run.given n)
@@ -131,15 +124,15 @@ module _ (specs : List Spec) (kept : List Kind) (before after ended : List BoxPi
   -- loaded
   pub pulled-after : pulled_by_boxes k after ≡ pulled_by_boxes k before + pulled_since k ended
   pulled-after =
-      let rack : pulled_by_boxes k after ≡ pulled_by_boxes k left + pulled_by_boxes k run.given =
-      ap (λ l. pulled_by_boxes k l) run.rack
-      ∙ pulled-append k left run.given in
-      let had : pulled_by_boxes k before ≡ pulled_by_boxes k taken + pulled_by_boxes k left =
-      pulled-taken k kinds before stock in
-      let more : pulled_by_boxes k run.given ≡ pulled_by_boxes k taken + pulled_since k ended =
-      pulled-given k taken ended run.given (sym same-count) (run.given_count ∙ sym same-count)
-      each-given in
-      omega (arith, rack, had, more)
+      let rack = ap (λ l. pulled_by_boxes k l) run.rack in
+      omega (
+        arith,
+        rack,
+        pulled-append k left run.given,
+        pulled-taken k kinds before stock,
+        pulled-given k taken ended run.given (sym same-count) (run.given_count ∙ sym same-count)
+            each-given,
+      )
 
   -- where the ended boxes of a kind pulled so many rows, or one has a full count
   pub kind-pulled : (n : ℕ) → (pulled_since k ended ≡ n) ⊎ HasFullCount k ended

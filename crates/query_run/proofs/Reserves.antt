@@ -1,5 +1,5 @@
 -- What a plan keeps for its lists: which nodes each reserve has, and that they make a graph.
-use Rattle.query_run.proofs.Imports.{All, All-append, All-nil, All-replicate, AreReserves, Bool, DraftNode, IsGraph, IsGraphSoFar, KeepsBehind, Kind, List, PartSpec, PlanReserve, Reserve, Wire, [], and_from, and_parts, ap, append-nil, append_assoc, arith, cases_Bool, cases_lt, edges_kept, eq-eqb, eqb-true, false, get_or, get_or-append_seam, get_or_append_left, graph-reserved, holds_node, inl, inr, is-gapless, is_reserved, kind_of, kinds_reserved, le-leb, leb-true, length, length-append, length-replicate, list_any-append, lt-leb, lt-ltb, ltb-true, nat_le, ne_eqb, no_reserve, none-reserved, refl, replicate, replicate-append-replicate, reserve-added, reserve_at, reserve_of, reserved_edges, reserved_nodes, reserves_behind, reserves_from, same_kind, spec_at, specs_in, subst, suc, sum_by-cons, sum_by_push, sym, take, true, wire_at, zero, ℕ, ◌&&◌, ◌++◌, ◌+◌, ◌<◌, ◌==◌, ◌||◌, ◌∙◌, ◌∷◌, ◌≡◌, ◌≢◌, ◌≤◌}
+use Rattle.query_run.proofs.Imports.{All, All-append, All-nil, All-replicate, AreReserves, Bool, DraftNode, IsGraph, IsGraphSoFar, KeepsBehind, Kind, List, PartSpec, PlanReserve, Reserve, Wire, [], and_from, and_parts, ap, append-nil, append_assoc, arith, cases_Bool, cases_lt, edges_kept, eq-eqb, eqb-true, false, get_or, get_or-append_seam, get_or_append_left, graph-reserved, holds_node, inl, inr, is-gapless, is_reserved, kind_of, kinds_reserved, le-leb, leb-true, length, length-append, length-flat_map, length-replicate, list_any-append, lt-leb, lt-ltb, ltb-true, nat_le, ne_eqb, no_reserve, none-reserved, refl, replicate, replicate-append-replicate, reserve-added, reserve_at, reserve_of, reserved_edges, reserved_nodes, reserves_behind, reserves_from, same_kind, spec_at, specs_in, subst, suc, sum_by-cons, sum_by_push, sym, take, true, wire_at, zero, ℕ, ◌&&◌, ◌++◌, ◌+◌, ◌<◌, ◌||◌, ◌∙◌, ◌∷◌, ◌≡◌, ◌≢◌, ◌≤◌}
 use Rattle.query_model.specs.declared.processor_spec.Kind.TheVariants as kind
 use Rattle.query_model.specs.declared.processor_spec.Spec.TheVariants as spec
 
@@ -13,9 +13,7 @@ kept-nodes r rs = sum_by-cons (λ (q : PlanReserve). length q.kinds) r rs
 
 -- as many kinds are kept as nodes
 pub kinds-length : (rs : List PlanReserve) → length (kinds_reserved rs) ≡ reserved_nodes rs
-kinds-length [] = refl
-kinds-length (r ∷ rs) = length-append r.kinds (kinds_reserved rs)
-    ∙ ap (λ n. length r.kinds + n) (kinds-length rs) ∙ sym (kept-nodes r rs)
+kinds-length rs = length-flat_map (λ (r : PlanReserve). r.kinds) rs
 
 -- the reserve as the code makes it, with its nodes and edges from here on
 abbrev pub made : PlanReserve → (node count edge : ℕ) → Reserve
@@ -31,27 +29,19 @@ made r node count edge = record {
 
 holds-from : (q : ℕ) (r : Reserve) → holds_node q r ≡ true
     → (r.first_node ≤ q) × (q < r.first_node + r.nodes)
-holds-from q r h = let both = and_parts _ _ h in (leb-true _ _ both.0, ltb-true _ _ both.1)
+holds-from q r h = grind (arith, and_parts, leb-true, ltb-true)
 
 holds-none : (q n : ℕ) → holds_node q no_reserve ≡ true → ⊥
-holds-none q n h = let at = (holds-from q no_reserve h).1 in omega (arith, at)
+holds-none q n h = grind (arith, holds-from)
 
 -- a node that is held lies behind so many, and before so many more
 pub holds-within : (q n nodes edges : ℕ) (rs : List PlanReserve)
     → holds_node q (reserve_of (reserves_behind nodes edges rs) n) ≡ true
     → (nodes ≤ q) × (q < nodes + reserved_nodes rs)
 holds-within q n nodes edges [] h = absurd (holds-none q n h)
-holds-within q n nodes edges (r ∷ rs) h = elim (cases_Bool (r.node == n)) [
-  | inl own ↦
-      let at = holds-from q (made r nodes (length r.kinds) edges) (rw own at h) in
-      (at.0, let lt = at.1 in omega (arith, lt, kept-nodes r rs))
-  | inr other ↦
-      let at =
-      holds-within q n (nodes + length r.kinds) (edges + r.edges) rs (rw other at h) in
-      let low = at.0 in
-      let high = at.1 in
-      (omega (arith, low), omega (arith, high, kept-nodes r rs))
-]
+holds-within q n nodes edges (r ∷ rs) h =
+    let rest = holds-within q n (nodes + length r.kinds) (edges + r.edges) rs in
+    grind (arith, holds-from, kept-nodes r rs, rest)
 
 -- no two nodes' reserves hold one node
 pub holds-one : (q m n nodes edges : ℕ) (rs : List PlanReserve)
@@ -59,26 +49,10 @@ pub holds-one : (q m n nodes edges : ℕ) (rs : List PlanReserve)
     → holds_node q (reserve_of (reserves_behind nodes edges rs) n) ≡ true → m ≡ n
 holds-one q m n nodes edges [] h k = absurd (holds-none q m h)
 holds-one q m n nodes edges (r ∷ rs) h k =
-    let first : Reserve = made r nodes (length r.kinds) edges in
-    elim (cases_Bool (r.node == m)) [
-      | inl a ↦ elim (cases_Bool (r.node == n)) [
-        | inl b ↦ sym (eqb-true r.node m a) ∙ eqb-true r.node n b
-        | inr b ↦
-            let at = (holds-from q first (rw a at h)).1 in
-            let past =
-            (holds-within q n (nodes + length r.kinds) (edges + r.edges) rs (rw b at k)).0 in
-            absurd (omega (arith, at, past))
-      ]
-      | inr a ↦ elim (cases_Bool (r.node == n)) [
-        | inl b ↦
-            let at = (holds-from q first (rw b at k)).1 in
-            let past =
-            (holds-within q m (nodes + length r.kinds) (edges + r.edges) rs (rw a at h)).0 in
-            absurd (omega (arith, at, past))
-        | inr b ↦
-            holds-one q m n (nodes + length r.kinds) (edges + r.edges) rs (rw a at h) (rw b at k)
-      ]
-    ]
+    let first = holds-within q m (nodes + length r.kinds) (edges + r.edges) rs in
+    let second = holds-within q n (nodes + length r.kinds) (edges + r.edges) rs in
+    let rest = holds-one q m n (nodes + length r.kinds) (edges + r.edges) rs in
+    grind (arith, holds-from, eqb-true, first, second, rest)
 
 -- ---- the reserve of a list
 
@@ -95,21 +69,12 @@ pub list-reserve : (nodes edges n : ℕ) (zs : List DraftNode) (m k first : ℕ)
     → IsListReserve (reserve_of (reserves_behind nodes edges (reserves_from n zs)) k) first
 unfolding spec_at
 list-reserve nodes edges n [] m k first lt list at is = absurd (omega (arith, lt))
-list-reserve nodes edges n (z ∷ zs) zero k first lt list at is =
-    let e : same_kind (kind_of z.spec) kind.List ≡ true = list in
-    rw (e, eq-eqb n k (omega (arith, at)))
-    (record { first_node = omega (arith, is); nodes = refl; edges = refl })
+list-reserve nodes edges n (z ∷ zs) zero k first lt list at is = grind (arith, eq-eqb)
 list-reserve nodes edges n (z ∷ zs) (suc m) k first lt list at is =
-    elim (cases_Bool (same_kind (kind_of z.spec) kind.List)) [
-      | inl e ↦
-          let i = rw e at is in
-          rw (e, ne_eqb n k (λ same. omega (arith, same, at)))
-          (list-reserve (nodes + 32) (edges + 32) (suc n) zs m k first (omega (arith, lt)) list
-          (omega (arith, at))
-          (omega (arith, i, kept-nodes (list_kept n) (reserves_from (suc n) (take m zs)))))
-      | inr e ↦ rw e (list-reserve nodes edges (suc n) zs m k first (omega (arith, lt)) list
-          (omega (arith, at)) (rw e at is))
-    ]
+    let more = kept-nodes (list_kept n) (reserves_from (suc n) (take m zs)) in
+    let here = list-reserve (nodes + 32) (edges + 32) (suc n) zs m k first in
+    let later = list-reserve nodes edges (suc n) zs m k first in
+    grind (arith, ne_eqb, more, here, later)
 
 -- what is kept for the list that node m reads
 module _ (nodes : List DraftNode) (edges m : ℕ) (list : PartSpec) (own : m < length nodes)
@@ -124,11 +89,7 @@ module _ (nodes : List DraftNode) (edges m : ℕ) (list : PartSpec) (own : m < l
 
   -- it holds each of its nodes, which lies behind those of the plan
   pub held-of : (k : ℕ) → k < 32 → holds_node (its_reserve.first_node + k) its_reserve ≡ true
-  held-of k lt =
-      let few = kept-of.nodes in
-      and_from _ _ (le-leb its_reserve.first_node (its_reserve.first_node + k) (omega arith))
-      (lt-ltb (its_reserve.first_node + k) (its_reserve.first_node + its_reserve.nodes)
-      (omega (arith, lt, few)))
+  held-of k lt = grind (arith, kept-of, and_from, le-leb, lt-ltb)
 
   pub past-of : (k : ℕ) → k < 32 → (length nodes ≤ its_reserve.first_node + k)
       × (its_reserve.first_node + k < length nodes + reserved_nodes (reserves_from 0 nodes))
@@ -292,15 +253,11 @@ module _ (ranks : List ℕ) (wires : List Wire) (base : IsGraph ranks wires []) 
 pub edges-as-nodes : (n : ℕ) (zs : List DraftNode)
     → edges_kept (reserves_from n zs) ≡ reserved_nodes (reserves_from n zs)
 edges-as-nodes n [] = refl
-edges-as-nodes n (z ∷ zs) = elim (cases_Bool (same_kind (kind_of z.spec) kind.List)) [
-  | inl e ↦ rw e (omega (
-    arith,
-    kept-nodes (list_kept n) (reserves_from (suc n) zs),
-    sum_by-cons (λ (q : PlanReserve). q.edges) (list_kept n) (reserves_from (suc n) zs),
-    edges-as-nodes (suc n) zs,
-  ))
-  | inr e ↦ rw e (edges-as-nodes (suc n) zs)
-]
+edges-as-nodes n (z ∷ zs) =
+    let nodes = kept-nodes (list_kept n) (reserves_from (suc n) zs) in
+    let edges = sum_by-cons (λ (q : PlanReserve). q.edges) (list_kept n)
+    (reserves_from (suc n) zs) in
+    grind (arith, nodes, edges, edges-as-nodes (suc n) zs)
 
 -- only sources are kept
 pub kept-sources : (P : Kind → Type 0) → P kind.Csv → (n : ℕ) (zs : List DraftNode)

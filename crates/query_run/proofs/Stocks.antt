@@ -1,5 +1,5 @@
 -- The kinds in their order, and how many boxes of each a rack has.
-use Rattle.query_run.proofs.Imports.{BoxPicture, HasBoxes, IsShort, KINDS, Kind, List, ap, arith, cases_lt, count_by, get_or, get_or-map, get_or-range_with_len, get_or_past, inl, inr, is_of, kind-at, kind_place, length, subst, sym, ℕ, ◌+◌, ◌<◌, ◌∙◌, ◌≡◌, ◌≤◌}
+use Rattle.query_run.proofs.Imports.{BoxPicture, HasBoxes, KINDS, Kind, List, ap, arith, cases_lt, count_by, get_or, get_or-map, get_or-range_with_len, get_or_past, inl, inr, is_of, kind-at, kind_place, length, subst, sym, ℕ, ◌+◌, ◌<◌, ◌∙◌, ◌≡◌, ◌≤◌}
 use Rattle.query_model.specs.declared.processor_spec.Kind.TheVariants as kind
 
 -- of each kind before this place the rack has the boxes that are needed
@@ -8,21 +8,11 @@ pub record HasBefore (place : ℕ) (needed : Kind → ℕ) (boxes : List BoxPict
 
 -- a place that no kind has would be that of two kinds
 place-bound : (k : Kind) → kind_place k < length KINDS
-place-bound k = elim (cases_lt (kind_place k) (length KINDS)) [
-  | inl lt ↦ lt
-  | inr le ↦
-      let one : kind.Csv ≡ k =
-      sym (get_or_past KINDS (kind_place k) kind.Csv le) ∙ kind-at k kind.Csv in
-      let other : kind.List ≡ k =
-      sym (get_or_past KINDS (kind_place k) kind.List le) ∙ kind-at k kind.List in
-      absurd cc
-]
+place-bound k = grind (arith, cases_lt, get_or_past, kind-at)
 
 -- at each place stands the kind of that place
 place-at : (n : ℕ) (d : Kind) → n < length KINDS → kind_place (get_or KINDS n d) ≡ n
-place-at n d lt =
-    sym (get_or-map kind_place KINDS n d 0 lt) ∙ get_or-range_with_len 0 (length KINDS) n 0 lt
-    ∙ (let e : 0 + n ≡ n = omega arith in e)
+place-at n d lt = grind (arith, get_or-map, get_or-range_with_len)
 
 pub none-before : (needed : Kind → ℕ) (boxes : List BoxPicture) → HasBefore 0 needed boxes
 none-before needed boxes = record { each = λ k lt. absurd (omega (arith, lt)) }
@@ -37,24 +27,10 @@ one-more n k needed boxes asked there h at ne th le = record {
     | inr after ↦
         let here : kind_place j ≡ n = omega (arith, lt, after) in
         let same : k ≡ j = at ∙ ap (λ i. get_or KINDS i k) (sym here) ∙ kind-at j k in
-        let enough : needed k ≤ count_by (is_of k) boxes = omega (arith, ne, th, le) in
-        subst (λ (i : Kind). needed i ≤ count_by (is_of i) boxes) same enough
+        subst (λ (i : Kind). needed i ≤ count_by (is_of i) boxes) same (omega (arith, ne, th, le))
   ];
 }
 
 pub all-before : (n : ℕ) (needed : Kind → ℕ) (boxes : List BoxPicture) → 13 ≤ n
     → HasBefore n needed boxes → HasBoxes needed boxes
 all-before n needed boxes le h k = h.each k (let lt = place-bound k in omega (arith, le, lt))
-
-pub first-short : (n : ℕ) (k : Kind) (needed : Kind → ℕ) (boxes : List BoxPicture)
-    (asked there : ℕ) → n < 13 → HasBefore n needed boxes → k ≡ get_or KINDS n k
-    → asked ≡ needed k → there ≡ count_by (is_of k) boxes → there < asked
-    → IsShort needed boxes (record { kind = k; needed = asked; there = there })
-first-short n k needed boxes asked there lt h at ne th fewer = record {
-  needed_is = ne;
-  there = th;
-  fewer = fewer;
-  first = λ j before.
-      let place : kind_place k ≡ n = ap kind_place at ∙ place-at n k lt in
-      h.each j (omega (arith, before, place));
-}

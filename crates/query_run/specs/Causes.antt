@@ -17,8 +17,8 @@ use Rattle.proc_api.specs.Names.{BoxPicture, IsLongFile, raised}
 use Rattle.exec_laws.specs.Names.{box_at, IsStuck}
 use Rattle.exec_laws.specs.declared.edges.StuckNode.{StuckNode}
 use Rattle.exec_laws.specs.declared.growth.GrowthFlaw.{GrowthFlaw}
-use Rattle.plan_ends.specs.Ended.{used_part}
-use Rattle.plan_graph.specs.declared.nodes.DraftNode.{DraftNode}
+use Rattle.plan_laws.specs.Ended.{used_part}
+use Rattle.plan_laws.specs.declared.nodes.DraftNode.{DraftNode}
 use Rattle.pipeline_exec.specs.Ends.{EndsBadly}
 use Rattle.plan_run.specs.Plans.{GivesBack, GraphBegins, spec_at, taken_at}
 use Rattle.query_run.specs.declared.ending.PartName.{PartName}
@@ -28,9 +28,9 @@ use Rattle.query_run.specs.declared.ending.PlanFailure.{PlanFailure}
 use Rattle.query_run.specs.declared.ending.PlanFailure.TheVariants as plan
 use Rattle.query_run.specs.declared.ending.Failure.{Failure}
 use Rattle.query_run.specs.declared.ending.Failure.TheVariants as failure
-use Rattle.select_planner.specs.Boxes.{reserved_nodes}
-use Rattle.select_planner.specs.Refusals.{first_crowded}
-use Rattle.select_planner.specs.Shapes.{reserves_from}
+use Rattle.plan_laws.specs.Boxes.{reserved_nodes}
+use Rattle.plan_laws.specs.Refusals.{first_crowded}
+use Rattle.plan_laws.specs.Shapes.{reserves_from}
 use Rattle.query_run.specs.Racks.{boxes_for, kinds_for, plan_kinds, specs_in, IsRunnable, IsShort, NamesFewPaths, OverFiles, RanPlan}
 use Rattle.query_run.specs.Commands.{IsRefusedFor, OfCommand, OfQuery}
 use Rattle.query_run.specs.Steps.{formed}

@@ -1,6 +1,6 @@
 -- What a command's text means: its checked query, or why it is refused.
 use Rattle.std.specs.Prelude.{◌≡◌, ℕ, List, map, Some, None}
-use Rattle.query_model.specs.Names.{IsDueRefusal, IsTypedQuery, from_types, IsChecked, use_of, query_tables, refusal_of}
+use Rattle.query_model.specs.Names.{IsDueRefusal, IsTypedQuery, from_types, IsChecked, use_of, query_tables, query_tree, refusal_of}
 use Rattle.query_model.specs.declared.query.Query.{Query}
 use Rattle.query_model.specs.declared.query.Refusal.{Refusal}
 use Rattle.query_model.specs.declared.query.Schema.{Schema}
@@ -24,7 +24,7 @@ pub record OfCommand (words : List (List ℕ)) (P : Command → Type 0) : Type 0
 
 -- the tables that a query uses
 abbrev pub tables_used : Query → Command → List TableUse
-tables_used q command = map (use_of (schemas_of command)) (query_tables q)
+tables_used q command = map (use_of (schemas_of command)) (query_tables (query_tree q))
 
 -- a query is read from the command's text, and no condition refuses it
 pub record IsAccepted (command : Command) : Type 0 where

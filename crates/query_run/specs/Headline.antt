@@ -20,7 +20,7 @@ use Rattle.query_run.specs.declared.ending.PartFailure.TheVariants as part
 use Rattle.query_run.specs.declared.ending.Ending.{Ending}
 use Rattle.query_run.specs.declared.ending.Ending.TheVariants.{Answered, Failed, WriteFailed}
 use Rattle.query_run.specs.Endings.{status_of, line_of, TellsLine}
-use Rattle.plan_meaning.specs.Plans.{HasEnoughRows}
+use Rattle.plan_laws.specs.Plans.{HasEnoughRows}
 use Rattle.query_run.specs.Racks.{boxes_for, IsHonest, IsRunnable, LacksBoxes, NamesFewPaths, OverFiles, PulledMore, RanPlan}
 use Rattle.query_run.specs.Commands.{IsAccepted, IsCheckedCommand, OfCommand, OfQuery}
 use Rattle.query_run.specs.Causes.{FailsAtPart, FailsFor, TakesBoxes, UsesList}

@@ -7,13 +7,14 @@ use Rattle.query_model.specs.declared.processor_spec.Spec.{Spec}
 use Rattle.query_model.specs.declared.processor_spec.Kind.{Kind}
 use Rattle.command_line.specs.declared.words.Command.{Command}
 use Rattle.proc_api.specs.Names.{BoxPicture, IsSourceKind, is_of, kind_place, stock_of}
-use Rattle.plan_graph.specs.declared.nodes.DraftNode.{DraftNode}
-use Rattle.plan_meaning.specs.Names.{SelectPlan, plan_nodes, forms}
-use Rattle.select_planner.specs.Refusals.{first_crowded}
-use Rattle.select_planner.specs.Shapes.{reserves_from}
-use Rattle.select_planner.specs.Steps.{select_plan}
-use Rattle.select_planner.specs.declared.nodes.PlanReserve.{PlanReserve}
-use Rattle.plan_ends.specs.Ended.{HasFullCount}
+use Rattle.plan_laws.specs.declared.nodes.DraftNode.{DraftNode}
+use Rattle.plan_laws.specs.Plans.{SelectPlan, plan_nodes}
+use Rattle.plan_laws.specs.Same.{forms}
+use Rattle.plan_laws.specs.Refusals.{first_crowded}
+use Rattle.plan_laws.specs.Shapes.{reserves_from}
+use Rattle.plan_laws.specs.Steps.{select_plan}
+use Rattle.plan_laws.specs.declared.plan.PlanReserve.{PlanReserve}
+use Rattle.plan_laws.specs.Ended.{HasFullCount}
 use Rattle.plan_run.specs.Plans.{kinds_taken, RunsPlan}
 use Rattle.query_run.specs.declared.stock.Shortage.{Shortage}
 

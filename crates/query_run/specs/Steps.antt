@@ -1,5 +1,6 @@
 -- What the steps of an answer give: the plan's graph, the text of what it gives, and why it fails.
-use Rattle.std.specs.Prelude.{◌≡◌, ◌⊎◌, ℕ, ◌+◌, ◌++◌, ◌∷◌, zero, suc, Bool, List, [], flat_map, length, map, replicate, slice_get, slice_index_or, sum_by, Option, Some, None, ⊤}
+use Rattle.std.specs.Prelude.{◌≡◌, ◌⊎◌, ℕ, ◌+◌, ◌++◌, ◌∷◌, Bool, List, [], flat_map, length, map, replicate, slice_get, slice_index_or, sum_by, Option, Some, None, ⊤}
+use Rattle.std.specs.List.{range_with_len}
 use Rattle.chunk_data.specs.Values.{Table}
 use Rattle.port_word.specs.declared.flags.Reserve.{Reserve}
 use Rattle.query_model.specs.Texts.{answer_text}
@@ -11,14 +12,14 @@ use Rattle.query_model.specs.declared.processor_spec.Spec.TheVariants as spec
 use Rattle.proc_api.specs.Names.{BoxPicture, chunk_rows}
 use Rattle.proc_api.specs.declared.status.WorkFault.TheVariants as fault
 use Rattle.command_line.specs.declared.words.Command.{Command}
-use Rattle.plan_graph.specs.Drafts.{no_draft, with_nodes}
-use Rattle.plan_graph.specs.declared.nodes.DraftNode.{DraftNode}
-use Rattle.plan_meaning.specs.Plans.{plan_nodes}
-use Rattle.select_planner.specs.declared.nodes.Plan.{Plan}
-use Rattle.select_planner.specs.declared.nodes.PlanNode.{PlanNode}
-use Rattle.select_planner.specs.declared.nodes.PlanReserve.{PlanReserve}
-use Rattle.select_planner.specs.Boxes.{reserved_nodes}
-use Rattle.select_planner.specs.Shapes.{IsSoundPlan, LaysDown, plan_ranks, reserves_from}
+use Rattle.plan_laws.specs.Drafts.{no_draft, with_nodes}
+use Rattle.plan_laws.specs.declared.nodes.DraftNode.{DraftNode}
+use Rattle.plan_laws.specs.Plans.{plan_nodes}
+use Rattle.plan_laws.specs.declared.plan.Plan.{Plan}
+use Rattle.plan_laws.specs.declared.plan.PlanNode.{PlanNode}
+use Rattle.plan_laws.specs.declared.plan.PlanReserve.{PlanReserve}
+use Rattle.plan_laws.specs.Boxes.{reserved_nodes}
+use Rattle.plan_laws.specs.Shapes.{IsSoundPlan, LaysDown, plan_ranks, reserves_from}
 use Rattle.query_run.specs.Racks.{kinds_reserved, plan_of}
 use Rattle.plan_run.specs.Plans.{GivesRows, GraphBegins, RunsPlan, kinds_taken}
 use Rattle.plan_run.specs.declared.run.GraphForm.{GraphForm}
@@ -60,8 +61,8 @@ spec_read specs n = slice_index_or specs n spec.Collect
 
 -- the parts of so many boxes that are kept for the list of a table, from part k on
 abbrev pub kept_places : (table k count : ℕ) → List PartPlace
-kept_places table k zero = []
-kept_places table k (suc n) = record { table = table; part = k } ∷ kept_places table (k + 1) n
+kept_places table k count =
+    map (λ part. record { table = table; part = part }) (range_with_len k count)
 
 -- The parts that the nodes of a plan read, and those that are kept for lists: the box at place P of
 -- a list's reserve, from 1, serves its part P.

@@ -1,6 +1,6 @@
 // The graph of a plan, and the parts that its boxes serve.
 ghost use Rattle.std.specs.Prelude.{◌≡◌, ◌+◌, ◌++◌, ◌≤◌, length, map, replicate, IfOk, OnOk, slice_get};
-ghost use Rattle.select_planner.specs.Boxes.{reserved_nodes};
+ghost use Rattle.plan_laws.specs.Boxes.{reserved_nodes};
 ghost use Rattle.query_run.specs.Racks.{kinds_reserved};
 ghost use Rattle.query_run.specs.Steps.{IsGraphOf, edges_kept, kept_places, name_of, name_at, node_specs, part_place, places_in, reserves_behind, spec_read};
 

@@ -1,5 +1,5 @@
 ghost use Rattle.std.specs.Prelude.{map, IfSome, IfNone};
-ghost use Rattle.select_planner.specs.Counts.{boxes_needed};
+ghost use Rattle.plan_laws.specs.Shapes.{boxes_needed};
 ghost use Rattle.query_run.specs.Racks.{HasBoxes, IsShort};
 
 use proc_api::{KINDS, Rack};

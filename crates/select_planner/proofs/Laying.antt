@@ -1,23 +1,14 @@
 -- The steps of a plan, laid down one behind another.
 use Rattle.std.proofs.lemmas.Grind.{common_steps}
-use Rattle.select_planner.proofs.Imports.{Bool, List, None, Some, [], ap, arith, false, get_or, length, map, nat_lt, refl, slice_get, suc, sum_by, sym, take, zero, ℕ, ◌++◌, ◌+◌, ◌<◌, ◌∙◌, ◌∷◌, ◌≡◌, ◌≤◌, AggCall, Checked, Declared, DraftNode, Expr, FewSources, IsSmall, PartSpec, PartsDecl, Paths, Spec, TableDecl, TableUse, append_assoc, call_arguments, column_items, formula, forms, nodes_behind, kept_for, lane_nodes, length-take-le, map-append, nat_tests, plan_nodes, source_nodes, spec_form, sum_by-cons, take_more, used_tables, with_argument, path_count, crowded_decl, crowded, first_crowded, SourceReading, part_spec, path_sources, part_sources, table_sources, select_plan}
+use Rattle.select_planner.proofs.Imports.{AggCall, Bool, Checked, Declared, DraftNode, Expr, Kind, List, None, PartSpec, PartsDecl, Paths, PlanNode, PlanReserve, SourceReading, Spec, TableDecl, TableUse, [], append-nil, append_assoc, arith, boxes_reserved, boxes_taken, call_arguments, column_items, count_by-le-length, forms, formula, get_or, kept_at, lane_nodes, length, length-take-le, map, map-append, nodes_behind, part_sources, part_spec, path_sources, paths-length, plan_nodes, refl, reserved-le, reserved_nodes, reserves_from, select_plan, slice_get, source_nodes, spec_form, suc, sum_by, sum_by-take-le, sum_by_more, table_sources, take, take_more, with_argument, zero, ℕ, ◌++◌, ◌+◌, ◌<◌, ◌∷◌, ◌≡◌, ◌≤◌}
 use Rattle.query_model.specs.declared.processor_spec.Spec.TheVariants as spec
-
--- two blocks more
-pub blocks-more : (x y z first block : List DraftNode) → forms y ≡ forms x ++ forms first
-    → forms z ≡ forms y ++ forms block → forms z ≡ forms x ++ forms (first ++ block)
-blocks-more x y z first block d e = grind (arith, append_assoc, map-append)
 
 -- ---- lanes
 
 lanes-push : (s : Spec) (rank i n : ℕ)
     → lane_nodes s rank i (suc n) ≡ lane_nodes s rank i n ++ lane_nodes s rank (i + n) 1
 lanes-push s rank i zero = search (arith)
-lanes-push s rank i (suc n) =
-    let same : suc i + n ≡ i + suc n = omega arith in
-    ap (λ l. record { spec = s; rank = rank; offset = i; takes = 1; gives = 1 } ∷ l)
-    (lanes-push s rank (suc i) n
-    ∙ ap (λ k. lane_nodes s rank (suc i) n ++ lane_nodes s rank k 1) same)
+lanes-push s rank i (suc n) = search (arith, lanes-push s rank (suc i) n)
 
 -- a lane more, with a copy of its own
 pub lane-more : (s t : Spec) (rank k : ℕ) (x y z : List DraftNode) → spec_form s ≡ spec_form t
@@ -36,36 +27,20 @@ lanes-same s t rank i (suc k) e = search (arith, lanes-same s t rank (suc i) k e
 
 sources-append : (i : ℕ) (xs ys : List Spec)
     → source_nodes i (xs ++ ys) ≡ source_nodes i xs ++ source_nodes (i + length xs) ys
-sources-append i [] ys = let same : i ≡ i + 0 = omega arith in ap (λ k. source_nodes k ys) same
-sources-append i (x ∷ xs) ys =
-    let same : suc i + length xs ≡ i + suc (length xs) = omega arith in
-    ap (λ l. record { spec = x; rank = 1; offset = i; takes = 0; gives = 1 } ∷ l)
-    (sources-append (suc i) xs ys
-    ∙ ap (λ k. source_nodes (suc i) xs ++ source_nodes k ys) same)
+sources-append i [] ys = search (arith)
+sources-append i (x ∷ xs) ys = search (arith, sources-append (suc i) xs ys)
 
 -- sources behind other ends
 pub sources-behind : (ends i : ℕ) (specs : List Spec)
     → nodes_behind ends (source_nodes i specs) ≡ source_nodes (ends + i) specs
 sources-behind ends i [] = refl
-sources-behind ends i (s ∷ specs) =
-    let next : ends + suc i ≡ suc (ends + i) = omega arith in
-    ap (λ l. record { spec = s; rank = 1; offset = ends + i; takes = 0; gives = 1 } ∷ l)
-    (sources-behind ends (suc i) specs ∙ ap (λ k. source_nodes k specs) next)
+sources-behind ends i (s ∷ specs) = search (arith, sources-behind ends (suc i) specs)
 
 paths-push : (r : SourceReading) (k : ℕ) (paths : List (List ℕ)) (path : List ℕ)
     → path_sources r k (paths ++ path ∷ [])
     ≡ path_sources r k paths ++ spec.Csv (part_spec r (k + length paths) path) ∷ []
 paths-push r k [] path = search (arith)
-paths-push r k (p ∷ paths) path =
-    let same : suc k + length paths ≡ k + suc (length paths) = omega arith in
-    ap (λ l. spec.Csv (part_spec r k p) ∷ l)
-    (paths-push r (suc k) paths path
-    ∙ ap (λ n. path_sources r (suc k) paths ++ spec.Csv (part_spec r n path) ∷ []) same)
-
-paths-length : (r : SourceReading) (k : ℕ) (paths : List (List ℕ))
-    → length (path_sources r k paths) ≡ length paths
-paths-length r k [] = refl
-paths-length r k (path ∷ paths) = ap suc (paths-length r (suc k) paths)
+paths-push r k (p ∷ paths) path = search (arith, paths-push r (suc k) paths path)
 
 -- the source of a path more, behind so many open ends
 pub path-more : (r : SourceReading) (place : ℕ) (paths : List (List ℕ)) (path : List ℕ)
@@ -97,46 +72,6 @@ pub none-declared : (tables : List TableDecl) (header : Bool) (rows t : ℕ) (u 
     → u ≡ Declared t → slice_get tables t ≡ None → table_sources tables header rows u ≡ []
 none-declared tables header rows t u e n = search (arith)
 
--- ---- a small plan
-
-not-crowded : (n : ℕ) (b : Bool) → nat_lt 32 n ≡ b → b ≡ false → n ≤ 32
-not-crowded n b e f = let off : nat_lt 32 n ≡ false = e ∙ f in grind (arith, nat_tests)
-
--- a declaration that isn't crowded names few paths
-pub few-paths : (decl : TableDecl) → crowded_decl (Some decl) ≡ None → path_count decl.parts ≤ 32
-few-paths decl e = grind (arith, not-crowded)
-
-paths-kept : (r : SourceReading) (k : ℕ) (paths : List (List ℕ))
-    → sum_by kept_for (path_sources r k paths) ≡ 0
-paths-kept r k [] = refl
-paths-kept r k (path ∷ paths) = grind (arith, sum_by-cons, paths-kept r (suc k) paths)
-
-few-parts : (r : SourceReading) (d : PartsDecl) → path_count d ≤ 32 → FewSources (part_sources r d)
-few-parts r d few = grind (arith, paths-length, paths-kept)
-
-few-sources : (tables : List TableDecl) (header : Bool) (rows : ℕ) (u : TableUse)
-    → crowded tables u ≡ None → FewSources (table_sources tables header rows u)
-few-sources tables header rows u e = grind (arith, few-parts, few-paths)
-
--- where no used table names too many paths, neither that of FROM nor that of JOIN does
-pub few-uses : (tables : List TableDecl) (u : TableUse) (us : List TableUse)
-    → first_crowded tables (u ∷ us) ≡ None
-    → (crowded tables u ≡ None) × (first_crowded tables us ≡ None)
-few-uses tables u us e = grind arith
-
-pub is-small : (q : Checked) (tables : List TableDecl) (lanes rows : ℕ) (header : Bool)
-    → first_crowded tables (used_tables q) ≡ None → lanes ≤ 16
-    → IsSmall (select_plan q tables lanes rows header)
-is-small q tables lanes rows header few le = grind (arith, few-uses, few-sources)
-
--- a small plan, by the tables as the code reads them
-pub small-plan : (q : Checked) (tables read : List TableDecl) (lanes rows : ℕ) (header : Bool)
-    → read ≡ tables → lanes ≤ 16 → first_crowded read (used_tables q) ≡ None
-    → IsSmall (select_plan q tables lanes rows header)
-small-plan q tables read lanes rows header e le few =
-    is-small q tables lanes rows header
-    (ap (λ t. first_crowded t (used_tables q)) (sym e) ∙ few) le
-
 -- the nodes that were laid down for the tables
 pub steps-for : (q : Checked) (tables read : List TableDecl) (lanes rows : ℕ) (header : Bool)
     (nodes : List DraftNode) → read ≡ tables
@@ -160,7 +95,23 @@ pub argument-more : (keys : List ℕ) (calls : List (AggCall ℕ)) (call : AggCa
 argument-more keys calls call i x y lt is h e =
     grind (arith, common_steps, take_more, arguments-push, map-append, append_assoc)
 
--- the steps of groups, as the code adds them
-pub group-steps : (a b c d e f : List DraftNode)
-    → ((((a ++ b) ++ c) ++ d) ++ e) ++ f ≡ a ++ (b ++ (c ++ (d ++ (e ++ f))))
-group-steps a b c d e f = simp append_assoc
+-- ---- what is kept
+
+-- what is kept for one node more
+pub kept-more : (i : ℕ) (nodes : List DraftNode) (node : DraftNode) → i < length nodes
+    → node ≡ get_or nodes i node
+    → reserves_from 0 (take (i + 1) nodes) ≡ reserves_from 0 (take i nodes) ++ kept_at i node
+kept-more i nodes node lt is = grind (arith, length-take-le, take_more, push)
+  where
+    push : (n : ℕ) (xs : List DraftNode)
+        → reserves_from n (xs ++ node ∷ []) ≡ reserves_from n xs ++ kept_at (n + length xs) node
+    push n [] = grind (arith, append-nil)
+    push n (x ∷ xs) = search (arith, append_assoc, push (suc n) xs)
+
+-- a plan's boxes so far are at most 256
+pub few-boxes : (k : Kind) (nodes : List PlanNode) (reserves : List PlanReserve) (i : ℕ)
+    (r : PlanReserve) → length nodes + reserved_nodes reserves ≤ 256 → i < length reserves
+    → r ≡ get_or reserves i r
+    → boxes_taken k nodes + sum_by (boxes_reserved k) (take i reserves) + boxes_reserved k r ≤ 256
+few-boxes k nodes reserves i r few lt is =
+    grind (arith, common_steps, reserved-le, count_by-le-length, sum_by_more, sum_by-take-le)

@@ -1,4 +1,2 @@
 pub mod Imports
 pub mod Laying
-pub mod BoxCounts
-pub mod Laws

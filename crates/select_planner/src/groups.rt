@@ -2,7 +2,7 @@
 ghost use Rattle.std.specs.Prelude.{◌≡◌, ◌++◌, [], map, IfOk, OnOk};
 ghost use Rattle.query_model.specs.Formulas.{formula};
 ghost use Rattle.chunk_data.specs.Values.{type_at as type_at_place};
-ghost use Rattle.plan_meaning.specs.Names.{call_arguments, column_items, group_spec, shape_types, state_call, with_argument};
+ghost use Rattle.plan_laws.specs.Queries.{call_arguments, column_items, group_spec, shape_types, state_call, with_argument};
 ghost use Rattle.query_model.specs.Names.{group_types, type_of};
 
 use chunk_data::{ColumnType, List, Memory, type_at};

@@ -1,12 +1,14 @@
 // Blocks of nodes, added behind a list of nodes.
-ghost use Rattle.std.specs.Prelude.{◌≡◌, ◌≤◌, ◌++◌, ◌∷◌, [], OnOk, Some};
-ghost use Rattle.query_model.specs.declared.processor_spec.Spec.TheVariants.{Filter as filter_spec, Expression as expression_spec, PartialAggregate as partial_spec, Sort as sort_spec};
-ghost use Rattle.plan_graph.specs.Blocks.{lane_nodes, joint_node};
-ghost use Rattle.plan_meaning.specs.Names.{filter_nodes, gather_nodes, limit_nodes, sort_nodes, forms};
+ghost use Rattle.std.specs.Prelude.{◌≡◌, ◌≤◌, ◌++◌, ◌∷◌, [], IfOk, OnOk, Some};
+ghost use Rattle.plan_laws.specs.Blocks.{lane_nodes, joint_node};
+ghost use Rattle.plan_laws.specs.Plans.{filter_nodes, gather_nodes, limit_nodes, sort_nodes};
+ghost use Rattle.plan_laws.specs.Same.{forms};
+ghost use Rattle.proc_api.specs.Forms.{spec_form};
+ghost use Rattle.select_planner.specs.Lanes.{lane_spec};
 
 use crate::copies::{copy_cond, copy_groups, copy_items, copy_order};
 use chunk_data::{List, Memory};
-use plan_graph::DraftNode;
+use plan_laws::DraftNode;
 use query_model::checked::{Cond, Expr};
 use query_model::processor_spec::{GroupSpec, SortSpec, Spec};
 use query_model::query::Span;
@@ -71,47 +73,52 @@ pub(crate) fn add_filters(
 {
     match filter {
         None => Ok(()),
-        Some(cond) => add_filter_lanes(alloc, nodes, cond, rank, lanes),
+        Some(cond) => add_lanes(alloc, nodes, LaneStep::Filter(cond), rank, lanes),
     }
 }
 
-fn add_filter_lanes(
+/// A step that each lane has a copy of.
+#[derive(Clone, Copy)]
+pub(crate) enum LaneStep<'a> {
+    Filter(&'a Cond),
+    Expression(&'a List<Expr>),
+    PartialAggregate(&'a GroupSpec),
+    Sort(&'a SortSpec),
+}
+
+/// The spec of the step, in boxes and lists of its own.
+fn lane_copy(alloc: Global, step: LaneStep<'_>) -> Result<Spec, Memory>
+    ensures { IfOk result (λ spec. spec_form spec ≡ spec_form (lane_spec step.entry)) }
+{
+    match step {
+        LaneStep::Filter(cond) => Ok(Spec::Filter(copy_cond(alloc, cond)?)),
+        LaneStep::Expression(items) => Ok(Spec::Expression(copy_items(alloc, items)?)),
+        LaneStep::PartialAggregate(groups) => Ok(Spec::PartialAggregate(copy_groups(groups)?)),
+        LaneStep::Sort(order) => Ok(Spec::Sort(copy_order(order)?)),
+    }
+}
+
+/// Adds the nodes of a step, one in each lane.
+pub(crate) fn add_lanes(
     alloc: Global,
     nodes: &mut List<DraftNode>,
-    cond: &Cond,
+    step: LaneStep<'_>,
     rank: u32,
     lanes: u32,
 ) -> Result<(), Memory>
     ensures { OnOk result (forms nodes.new
-        ≡ forms nodes.old ++ forms (lane_nodes (filter_spec cond.now) rank 0 lanes)) }
+        ≡ forms nodes.old ++ forms (lane_nodes (lane_spec step.entry) rank 0 lanes)) }
 {
     for lane in 0..lanes {
-        let copy = copy_cond(alloc, cond)?;
-        add_lane(nodes, Spec::Filter(copy), rank, lane)?;
-    }
-    Ok(())
-}
-
-/// Adds the expressions of the items, one in each lane.
-pub(crate) fn add_items(
-    alloc: Global,
-    nodes: &mut List<DraftNode>,
-    items: &List<Expr>,
-    rank: u32,
-    lanes: u32,
-) -> Result<(), Memory>
-    ensures { OnOk result (forms nodes.new
-        ≡ forms nodes.old ++ forms (lane_nodes (expression_spec items.now) rank 0 lanes)) }
-{
-    for lane in 0..lanes {
-        let copy = copy_items(alloc, items)?;
-        add_lane(nodes, Spec::Expression(copy), rank, lane)?;
+        let copy = lane_copy(alloc, step)?;
+        add_lane(nodes, copy, rank, lane)?;
     }
     Ok(())
 }
 
 /// Adds what gathers the lanes into one, in this order where there is one.
 pub(crate) fn add_gather(
+    alloc: Global,
     nodes: &mut List<DraftNode>,
     order: Option<SortSpec>,
     lanes: u32,
@@ -121,45 +128,22 @@ pub(crate) fn add_gather(
 {
     match order {
         None => add_joint(nodes, Spec::Resize, 12, lanes, 1),
-        Some(order) => add_ordered(nodes, order, lanes),
+        Some(order) => add_ordered(alloc, nodes, order, lanes),
     }
 }
 
 /// Adds the sorts of the lanes and the merge behind them.
-fn add_ordered(nodes: &mut List<DraftNode>, order: SortSpec, lanes: u32) -> Result<(), Memory>
-    ensures { OnOk result (forms nodes.new
-        ≡ forms nodes.old ++ forms (gather_nodes (Some order) lanes)) }
-{
-    add_sorts(nodes, &order, lanes)?;
-    add_joint(nodes, Spec::MergeSorted(order), 12, lanes, 1)?;
-    Ok(())
-}
-
-/// Adds the sorts of ORDER BY, one in each lane.
-fn add_sorts(nodes: &mut List<DraftNode>, order: &SortSpec, lanes: u32) -> Result<(), Memory>
-    ensures { OnOk result (forms nodes.new
-        ≡ forms nodes.old ++ forms (lane_nodes (sort_spec order.now) 11 0 lanes)) }
-{
-    for lane in 0..lanes {
-        let copy = copy_order(order)?;
-        add_lane(nodes, Spec::Sort(copy), 11, lane)?;
-    }
-    Ok(())
-}
-
-/// Adds the partial groups, one in each lane.
-pub(crate) fn add_partials(
+fn add_ordered(
+    alloc: Global,
     nodes: &mut List<DraftNode>,
-    groups: &GroupSpec,
+    order: SortSpec,
     lanes: u32,
 ) -> Result<(), Memory>
     ensures { OnOk result (forms nodes.new
-        ≡ forms nodes.old ++ forms (lane_nodes (partial_spec groups.now) 7 0 lanes)) }
+        ≡ forms nodes.old ++ forms (gather_nodes (Some order) lanes)) }
 {
-    for lane in 0..lanes {
-        let copy = copy_groups(groups)?;
-        add_lane(nodes, Spec::PartialAggregate(copy), 7, lane)?;
-    }
+    add_lanes(alloc, nodes, LaneStep::Sort(&order), 11, lanes)?;
+    add_joint(nodes, Spec::MergeSorted(order), 12, lanes, 1)?;
     Ok(())
 }
 

@@ -1,7 +1,7 @@
 //! Which nodes a checked query becomes.
 //!
 //! `plan` lays down the nodes of a SELECT step by step. The table of steps is `plan_nodes` of
-//! `plan_meaning/specs/Plans.antt`, and what a query fills in is `select_plan` of
+//! `plan_laws/specs/Plans.antt`, and what a query fills in is `select_plan` of its
 //! `specs/Steps.antt`. The rank of a node is the number of its step. Each lane has a copy of a
 //! condition, of the items, of the keys and of the groups. `needs` counts a plan's boxes by kind.
 #![tactic(auto)]
@@ -9,11 +9,10 @@
 mod copies;
 mod groups;
 mod lanes;
-mod nodes;
 mod parts;
 mod steps;
 mod stock;
 
-pub use nodes::{Plan, PlanEdge, PlanNode, PlanRefusal, PlanReserve};
+pub use plan_laws::{Plan, PlanEdge, PlanNode, PlanRefusal, PlanReserve};
 pub use steps::plan;
 pub use stock::needs;

@@ -2,15 +2,14 @@
 ghost use Rattle.std.specs.Prelude.{◌≡◌, ◌≤◌, ◌++◌, ◌∷◌, [], map, length, IfOk, IfErr, OnOk};
 ghost use Rattle.query_model.specs.Database.{used_tables};
 ghost use Rattle.query_model.specs.declared.query.ColumnDecl.{ColumnDecl};
-ghost use Rattle.plan_graph.specs.Blocks.{source_nodes};
-ghost use Rattle.plan_meaning.specs.Same.{forms};
-ghost use Rattle.select_planner.specs.Refusals.{crowded, crowded_decl, first_crowded, path_count, IsCrowdedTable, IsDuePlanRefusal};
-ghost use Rattle.select_planner.specs.Steps.{join_spec, part_sources, part_spec, path_sources, source_types, table_reading, table_sources, used_types};
+ghost use Rattle.plan_laws.specs.Blocks.{source_nodes};
+ghost use Rattle.plan_laws.specs.Same.{forms};
+ghost use Rattle.plan_laws.specs.Refusals.{crowded, crowded_decl, first_crowded, path_count, IsCrowdedTable, IsDuePlanRefusal};
+ghost use Rattle.plan_laws.specs.Steps.{join_spec, part_sources, part_spec, path_sources, source_types, table_reading, table_sources, used_types};
 
 use crate::lanes::add_node;
-use crate::nodes::PlanRefusal;
 use chunk_data::{Bytes, ColumnType, List, Memory};
-use plan_graph::DraftNode;
+use plan_laws::{DraftNode, PlanRefusal};
 use query_model::checked::{Checked, CheckedJoin, TableUse};
 use query_model::processor_spec::{JoinSpec, PartSpec, Spec};
 use query_model::query::{ColumnDecl, PartsDecl, TableDecl};

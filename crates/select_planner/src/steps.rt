@@ -4,22 +4,23 @@ ghost use Rattle.query_model.specs.Database.{used_tables};
 ghost use Rattle.query_model.specs.declared.checked.Shape.TheVariants.{Grouped};
 ghost use Rattle.query_model.specs.declared.processor_spec.Kind.TheVariants as csv;
 ghost use Rattle.query_model.specs.declared.processor_spec.Spec.TheVariants.{Resize as resize_spec};
-ghost use Rattle.plan_graph.specs.Drafts.{AllFitDraft, no_draft, with_nodes};
-ghost use Rattle.plan_graph.specs.Blocks.{nodes_behind, joint_node, source_nodes};
-ghost use Rattle.plan_meaning.specs.Names.{forms, plan_nodes, read_nodes, shape_nodes, shape_of, shape_types};
-ghost use Rattle.select_planner.specs.Refusals.{crowded, first_crowded, IsDuePlanRefusal};
-ghost use Rattle.select_planner.specs.Shapes.{kept_at, plan_node_of, reserves_from, IsSoundPlan, LaysDown};
-ghost use Rattle.select_planner.specs.Boxes.{reserved_nodes};
-ghost use Rattle.select_planner.specs.Steps.{join_of, order_of, select_plan, source_types, table_sources};
+ghost use Rattle.plan_laws.specs.Drafts.{AllFitDraft, no_draft, with_nodes};
+ghost use Rattle.plan_laws.specs.Blocks.{nodes_behind, joint_node, source_nodes};
+ghost use Rattle.plan_laws.specs.Same.{forms};
+ghost use Rattle.plan_laws.specs.Plans.{plan_nodes, read_nodes, shape_nodes};
+ghost use Rattle.plan_laws.specs.Queries.{shape_of, shape_types};
+ghost use Rattle.plan_laws.specs.Refusals.{crowded, first_crowded, IsDuePlanRefusal};
+ghost use Rattle.plan_laws.specs.Shapes.{kept_at, plan_node_of, reserves_from, IsSoundPlan, LaysDown};
+ghost use Rattle.plan_laws.specs.Boxes.{reserved_nodes};
+ghost use Rattle.plan_laws.specs.Steps.{join_of, order_of, select_plan, source_types, table_sources};
 
 use crate::groups::{arguments_of, columns_of, group_spec, shape_types};
 use crate::lanes::{
-    add_filters, add_gather, add_items, add_joint, add_limit, add_node, add_partials, add_sort,
+    LaneStep, add_filters, add_gather, add_joint, add_lanes, add_limit, add_node, add_sort,
 };
-use crate::nodes::{Plan, PlanNode, PlanRefusal, PlanReserve};
 use crate::parts::{MAX_PARTS, SourceReading, add_sources, check_tables, join_spec, source_types};
 use chunk_data::{ColumnType, List, Memory};
-use plan_graph::{DraftBuilder, DraftNode, build};
+use plan_laws::{DraftBuilder, DraftNode, Plan, PlanNode, PlanRefusal, PlanReserve, build};
 use query_model::checked::{Checked, Expr, Grouping, Shape, TableUse};
 use query_model::processor_spec::{Kind, SortSpec, Spec};
 use query_model::query::TableDecl;
@@ -170,8 +171,8 @@ fn add_shape(
     let order = order_of(alloc, query, types.as_slice(), rows)?;
     match &query.shape {
         Shape::Plain(items) => {
-            add_items(alloc, nodes, items, 6, lanes)?;
-            add_gather(nodes, order, lanes)
+            add_lanes(alloc, nodes, LaneStep::Expression(items), 6, lanes)?;
+            add_gather(alloc, nodes, order, lanes)
         }
         Shape::Grouped(grouping) => {
             add_groups(alloc, nodes, grouping, types.as_slice(), order, rows, lanes)
@@ -196,15 +197,15 @@ fn add_groups(
     // What a step alone needs is dropped with it.
     {
         let arguments = arguments_of(alloc, grouping.keys.as_slice(), grouping.calls.as_slice())?;
-        add_items(alloc, nodes, &arguments, 6, lanes)?;
+        add_lanes(alloc, nodes, LaneStep::Expression(&arguments), 6, lanes)?;
     }
     let groups = group_spec(alloc, grouping, types, rows)?;
-    add_partials(nodes, &groups, lanes)?;
+    add_lanes(alloc, nodes, LaneStep::PartialAggregate(&groups), 7, lanes)?;
     add_joint(nodes, Spec::MergeAggregate(groups), 8, lanes, 1)?;
     add_filters(alloc, nodes, &grouping.having, 9, 1)?;
     {
         let picks = columns_of(alloc, grouping.picks.as_slice())?;
-        add_items(alloc, nodes, &picks, 10, 1)?;
+        add_lanes(alloc, nodes, LaneStep::Expression(&picks), 10, 1)?;
     }
     add_sort(nodes, order)?;
     Ok(())

@@ -1,8 +1,8 @@
 // How many boxes a plan needs.
 ghost use Rattle.std.specs.Prelude.{◌≡◌};
-ghost use Rattle.select_planner.specs.Counts.{boxes_needed, boxes_reserved, boxes_taken};
+ghost use Rattle.plan_laws.specs.Shapes.{boxes_needed, boxes_reserved, boxes_taken};
 
-use crate::nodes::{Plan, PlanNode, PlanReserve};
+use plan_laws::{Plan, PlanNode, PlanReserve};
 use query_model::processor_spec::Kind;
 
 /// How many boxes of the kind the plan uses, the reserved ones included.

@@ -1,5 +1,4 @@
-use Rattle.std.proofs.Common.{◌≡◌, length, map, subst, arith}
-use Rattle.plan_run.specs.Steps.{LoadsFirst}
+use Rattle.std.proofs.Common.{arith}
 use Rattle.plan_run.proofs.Loading.{in-map, loads-still, next-blank, next-kind, next-rest, next-spec, none-more, one-loaded}
 use Rattle.plan_run.proofs.boxes.load_boxes.Goals as goal
 
@@ -31,12 +30,7 @@ loop-i-preserved g c = record {
 }
 
 pub returns-clause-ok : goal.returns-clause-ok
-returns-clause-ok g c =
-    let end : c.loop-i.i ≡ length c.args.specs.items = omega arith in
-    subst (λ k. LoadsFirst k c.args.specs.items
-    (map (λ b. (goal.Processor-dyn g (b.vtable, b.value)).seen b.value) c.args.boxes.now.items)
-    (map (λ b. (goal.Processor-dyn g (b.vtable, b.value)).seen b.value) c.loop-i.boxes.items))
-    end c.loop-i.invariant.loads
+returns-clause-ok g c = grind arith
 
 pub returns-clause-still : goal.returns-clause-still
 returns-clause-still g c = loads-still c.loop-i.i c.args.specs.items _ _ c.loop-i.invariant.loads

@@ -1,5 +1,5 @@
-use Rattle.std.proofs.Common.{ap, refl, subst, sym, ◌∙◌}
-use Rattle.plan_run.proofs.Imports.{All, IsBlank, kinds_in, kinds_taken}
+use Rattle.std.proofs.Common.{arith, refl, subst, sym}
+use Rattle.plan_run.proofs.Imports.{All, IsBlank, kinds_taken}
 use Rattle.plan_run.proofs.Taking.{taken-all, taken-kinds}
 use Rattle.plan_run.proofs.Telling.{begins-by, fault-by, if-err, if-ok, plan-gives-back, plan-runs, rows-by}
 use Rattle.plan_run.proofs.run.run_in.Goals as goal
@@ -11,9 +11,7 @@ run_taken-boxes-requires-clause-blank g c κs lives =
     c.requires.runnable.stock c.requires.runnable.blank)
 
 pub run_taken-boxes-requires-clause-kinds : goal.run_taken-boxes-requires-clause-kinds
-run_taken-boxes-requires-clause-kinds g c κs lives = ap kinds_in c.take_boxes.ensures.taken
-    ∙ taken-kinds (kinds_taken c.args.plan.specs.items c.args.plan.kept) _
-    c.requires.runnable.stock
+run_taken-boxes-requires-clause-kinds g c κs lives = grind (arith, taken-kinds)
 
 pub returns-clause-rack : goal.returns-clause-rack
 returns-clause-rack g c =

@@ -1,5 +1,4 @@
-use Rattle.std.proofs.Common.{arith, length, map, sym, ◌+◌, ◌∙◌, ◌≡◌}
-use Rattle.plan_run.proofs.Imports.{kinds_in}
+use Rattle.std.proofs.Common.{arith, length, sym, ◌∙◌, ◌≡◌}
 use Rattle.plan_run.proofs.Loading.{boxes-count, first-kinds, loaded-starting, map-len, still-kinds}
 use Rattle.plan_run.proofs.Telling.{begins-by, fault-by, if-err, if-ok, rows-for, still-then-later, taken-runs}
 use Rattle.plan_run.proofs.run.run_taken.Goals as goal
@@ -9,12 +8,7 @@ load_boxes-requires-clause-kinds g c =
     first-kinds c.args.plan.specs.items c.args.plan.kept _ c.requires.kinds
 
 pub load_boxes-requires-clause-enough : goal.load_boxes-requires-clause-enough
-load_boxes-requires-clause-enough g c =
-    omega (
-      arith,
-      boxes-count c.args.plan.specs.items c.args.plan.kept _ c.requires.kinds,
-      map-len (λ b. (goal.Processor-dyn g (b.vtable, b.value)).seen b.value) c.args.boxes.items,
-    )
+load_boxes-requires-clause-enough g c = grind (arith, boxes-count, map-len)
 
 pub run_loaded-requires-clause-starting : goal.run_loaded-requires-clause-starting
 run_loaded-requires-clause-starting g c κs lives =
@@ -23,8 +17,7 @@ run_loaded-requires-clause-starting g c κs lives =
     c.requires.kinds)) c.requires.plan.graph c.requires.blank c.in-Ok.ensures.ok
 
 pub returns-in-Ok-clause-later : goal.returns-in-Ok-clause-later
-returns-in-Ok-clause-later g c = still-then-later _ _ _ c.in-Ok.ensures.still
-    c.run_loaded.ensures.later
+returns-in-Ok-clause-later g c = grind (arith, still-then-later)
 
 pub returns-in-Ok-clause-rows : goal.returns-in-Ok-clause-rows
 returns-in-Ok-clause-rows g c =

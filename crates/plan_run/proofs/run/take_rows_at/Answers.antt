@@ -1,15 +1,14 @@
+use Rattle.std.proofs.Common.{arith}
 use Rattle.plan_run.proofs.OneBox.{box-read}
 use Rattle.plan_run.proofs.Loading.{still-at}
 use Rattle.plan_run.proofs.run.take_rows_at.Goals as goal
 
 pub take_rows-requires : goal.take_rows-requires
-take_rows-requires g c = rw (box-read _ _ _ c.index_mut.result.now c.requires.in_range
-    c.index_mut.ensures.value) at c.requires.there
+take_rows-requires g c = grind (arith, box-read)
 
 pub returns-clause-still : goal.returns-clause-still
 returns-clause-still g c = still-at _ c.args.boxes.now.items c.args.n c.index_mut.result.now
     c.take_rows.new.b c.requires.in_range c.index_mut.ensures.value c.take_rows.ensures.still
 
 pub returns-clause-rows : goal.returns-clause-rows
-returns-clause-rows g c = rw (box-read _ _ _ c.index_mut.result.now c.requires.in_range
-    c.index_mut.ensures.value) c.take_rows.ensures.rows
+returns-clause-rows g c = grind (arith, box-read)

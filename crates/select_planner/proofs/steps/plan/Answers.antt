@@ -1,7 +1,8 @@
 use Rattle.select_planner.proofs.Imports.{arith, plan-graph, select_plan}
-use Rattle.select_planner.proofs.Laying.{small-plan, steps-for}
-use Rattle.select_planner.proofs.BoxCounts.{nodes-kept}
-use Rattle.select_planner.proofs.Laws.{is-sound}
+use Rattle.plan_laws.proofs.meaning.SmallPlans.{small-plan}
+use Rattle.select_planner.proofs.Laying.{steps-for}
+use Rattle.plan_laws.proofs.meaning.BoxCounts.{nodes-kept}
+use Rattle.plan_laws.proofs.meaning.SoundPlans.{is-sound}
 use Rattle.select_planner.proofs.steps.plan.Goals as goal
 
 pub plan_of-requires-clause-fit : goal.plan_of-requires-clause-fit

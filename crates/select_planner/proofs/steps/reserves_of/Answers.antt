@@ -1,5 +1,5 @@
 use Rattle.select_planner.proofs.Imports.{arith}
-use Rattle.select_planner.proofs.BoxCounts.{kept-more}
+use Rattle.select_planner.proofs.Laying.{kept-more}
 use Rattle.select_planner.proofs.steps.reserves_of.Goals as goal
 
 pub loop-n-preserved : goal.loop-n-preserved

@@ -1,4 +1,0 @@
-pub mod Drafts
-pub mod Blocks
-pub mod Building
-pub mod Names

@@ -1,0 +1,5 @@
+pub mod Imports
+pub mod graph
+pub mod meaning
+pub mod ends
+pub mod KindTable

@@ -1,0 +1,52 @@
+-- What was laid down is a graph, and takes as many boxes of each kind as the query needs.
+use Rattle.plan_laws.proofs.Imports.{Bool, List, [], ap, arith, cond, length, map, sum_by, sym, ℕ, ◌++◌, ◌+◌, ◌∙◌, ◌∷◌, ◌≡◌, Checked, Draft, DraftNode, IsSmall, Kind, NodeForm, TableDecl, append-nil, append_assoc, count_over, length-map, map-map, query_boxes, no_draft, of_kind, plan_nodes, same_kind, with_node, with_nodes, Plan, boxes_needed, boxes_taken, boxes_reserved, plan_ranks, IsSoundPlan, LaysDown, select_plan}
+use Rattle.plan_laws.proofs.meaning.PlanGraphs.{counted-same, plan-graph}
+use Rattle.plan_laws.proofs.meaning.Same.{kind-same}
+use Rattle.plan_laws.proofs.graph.Ports.{sum_by-map}
+use Rattle.query_model.specs.declared.processor_spec.Kind.TheVariants as kind
+use Rattle.plan_laws.proofs.meaning.BoxCounts.{boxes-counted, boxes_for, nodes-kept, plan-needs}
+
+-- ---- boxes
+
+-- A plan that was laid down takes as many boxes of each kind as the query needs.
+pub needs-are : (q : Checked) (tables : List TableDecl) (lanes rows : ℕ) (header : Bool) (p : Plan)
+    → LaysDown (plan_nodes (select_plan q tables lanes rows header)) p → (k : Kind)
+    → boxes_needed p k ≡ query_boxes q tables lanes k
+needs-are q tables lanes rows header p l k =
+    let steps : List DraftNode = plan_nodes (select_plan q tables lanes rows header) in
+    let taken : boxes_taken k p.nodes ≡ count_over (of_kind k) l.copies =
+    grind (arith, sum_by-map) in
+    let kept = ap (sum_by (boxes_reserved k)) l.reserves in
+    let whole = counted-same (boxes_for k) (λ x y form. ap (λ j. cond (same_kind j k) 1 0
+    + cond (same_kind j kind.List) (cond (same_kind kind.Csv k) 32 0) 0)
+    (kind-same x.spec y.spec (ap (λ (f : NodeForm). f.spec) form))) l.copies steps l.same
+    ∙ plan-needs q tables lanes rows header k in
+    omega (arith, taken, kept, boxes-counted k 0 l.copies, whole)
+
+-- ---- the graph
+
+ranks-are : (nodes : List DraftNode) (d : Draft) → (with_nodes nodes d).ranks ≡ d.ranks
+    ++ map (λ (n : DraftNode). n.rank) nodes
+ranks-are [] d = sym (append-nil d.ranks)
+ranks-are (n ∷ nodes) d = grind (arith, append_assoc, ranks-are nodes (with_node n d))
+
+-- A plan that was laid down is a graph, and takes as many boxes as the query needs.
+pub is-sound : (q : Checked) (tables : List TableDecl) (lanes rows : ℕ) (header : Bool) (p : Plan)
+    → IsSmall (select_plan q tables lanes rows header)
+    → LaysDown (plan_nodes (select_plan q tables lanes rows header)) p
+    → IsSoundPlan q tables lanes p
+is-sound q tables lanes rows header p small l =
+    let g = plan-graph (select_plan q tables lanes rows header) l.copies small l.same in
+    let drawn : Draft = with_nodes l.copies no_draft in
+    let ranks : plan_ranks p ≡ drawn.ranks = grind (arith, map-map, ranks-are) in
+    let count : length p.nodes ≡ length l.copies = grind (arith, length-map) in
+    grind (
+      arith,
+      ranks,
+      g.graph.graph,
+      needs-are q tables lanes rows header p l,
+      count,
+      nodes-kept 0 l.copies,
+      g.few,
+      g.few_wires,
+    )
