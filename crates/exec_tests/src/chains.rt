@@ -1,7 +1,7 @@
 // The cells of chains of boxes, told by texts.
 ghost use Rattle.std.specs.Prelude.{◌≤◌, IfOk, OnOk, map};
 ghost use Rattle.exec_table.specs.Seats.{identity_of};
-ghost use Rattle.node_ends.specs.CellLists.{AreCells};
+ghost use Rattle.node_ends.specs.CellLists.{AreCellsOfGraph};
 ghost use Rattle.node_workers.specs.Ended.{AreStored};
 ghost use Rattle.node_workers.specs.Workers.{HasSpare};
 ghost use Rattle.proc_api.specs.Clauses.{IsFresh};
@@ -112,7 +112,8 @@ pub(crate) fn cells_of(
     ensures spare { IfOk result (λ c. HasSpare (identity_of c.table) workers c.root) }
     ensures stored { IfOk result
         (λ c. AreStored (λ b. seen b) (identity_of c.table) c.cells.items) }
-    ensures cells { IfOk result (λ c. AreCells (λ b. seen b) (identity_of c.table) c.cells.items) }
+    ensures cells { IfOk result
+        (λ c. AreCellsOfGraph (λ b. seen b) (identity_of c.table) c.cells.items) }
 {
     let Ok(graph) = builder.finish() else {
         return Err("a graph was not built".into());

@@ -47,6 +47,7 @@ fn show_node(
     match ended.stopped {
         Some(StopCause::Fault(fault)) => show_fault(text, fault)?,
         Some(StopCause::Flaw(flaw)) => write!(text, "flaw {flaw:?}")?,
+        Some(StopCause::Memory) => text.push_str("memory")?,
         None => match ended.cell.mark.state {
             NodeStatus::Resting => text.push_str("rests")?,
             NodeStatus::Over => {
@@ -113,7 +114,7 @@ fn show_run<R: AllocGlobal + Sync + Threads + Wait>(
     }
 }
 
-static CHAINS: [&str; 5] = [
+static CHAINS: [&str; 6] = [
     "csv 0f 0 1\n6\n7\n8\n9\n/f i 2>Filter>Resize>Limit/2 0>Collect~ end|6 |7  end end end end",
     // The reader has nothing at its second call.
     "csv 2p 0 1\n6\n7\n/f i 2>Filter>Resize>Limit/9 0>Collect~ end|6 |7  end end end end",
@@ -121,17 +122,23 @@ static CHAINS: [&str; 5] = [
     "csv 0f 0 6\nx\n/f i 1>Filter>Resize>Limit/9 0>Collect~ rests rests rests rests bad 2 1",
     "csv 2f 0 6\n/f i 1>Filter>Resize>Limit/9 0>Collect~ rests rests rests rests Read",
     "Numbers>Resize>own>Resize>Collect~ rests rests bad 1 of 2 rests rests",
+    "own~ flaw TooManyNodes",
 ];
 
-// The test's own box answers a fault at its first chunk.
+// The test's own box answers a fault at its first chunk, or grows where nothing is reserved.
 #[test]
 fn chains_end_alike_by_one_worker_and_by_four(rt: HostRuntime) -> Result<(), Fail> {
     for case in CHAINS {
         let (chain, expected) = halves(case, '~');
+        let (kind, role) = if chain == "own" {
+            (Kind::List, Role::Source)
+        } else {
+            (Kind::Csv, Role::Work)
+        };
         for alone in [true, false] {
             let workers = if alone { 1 } else { 4 };
             let mut own: Vec<Box<dyn Processor + Send>> = Vec::new(rt.alloc());
-            own.push(Box::new(rt.alloc(), make_box(rt, Kind::Csv, Role::Work, 0)?)?)?;
+            own.push(Box::new(rt.alloc(), make_box(rt, kind, role, 0)?)?)?;
             let builder = match chain_of(rt.alloc(), chain, own) {
                 Ok(builder) => builder,
                 Err(fail) => return Err(fail),

@@ -106,7 +106,8 @@ fn run_case<R: AllocGlobal + Threads + Wait + Sync>(
     run_setting(rt, words.as_slice(), &files, stock, setting)
 }
 
-// The runs gave the outcomes in turn, and left such racks, where these are told.
+// The runs gave the outcomes in turn, of which one at most is want of memory, and left such racks,
+// where these are told.
 fn check_runs(
     alloc: Global,
     abort: &impl Abort,
@@ -116,11 +117,14 @@ fn check_runs(
     room: usize,
 ) -> Result<(), Fail> {
     let mut more = told;
+    let mut wants: u32 = 0;
     for outcome in runs.outcomes.as_slice() {
         let (told, rest) = halves(more, '/');
         check(alloc, abort, case, outcome, told, room)?;
+        wants = wants.saturating_add((outcome.status == 7) as u32);
         more = rest;
     }
+    assert!(abort; wants <= 1, "memory is wanting twice: {case}");
     if more != "" {
         assert_eq!(abort; runs.kinds.as_str(), more, "rack of {case}");
     }

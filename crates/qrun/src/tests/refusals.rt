@@ -320,8 +320,8 @@ fn a_reader_waits_and_fails(rt: HostRuntime) -> Result<(), Fail> {
     check_case(&rt, &rt, case, SIZES[3], setting)
 }
 
-/// Where memory is refused a run ends out of memory, and else with its answer.
-/// `tools/fail_allocations` refuses each allocation of this test in turn.
+/// Where memory is refused, once, the run in which it is ends out of memory, and else each with its
+/// answer. `tools/fail_allocations` refuses each allocation of this test in turn.
 #[test]
 fn memory_may_be_refused(rt: HostRuntime) -> Result<(), Fail> {
     static CASES: [&str; 6] = [
@@ -337,7 +337,7 @@ fn memory_may_be_refused(rt: HostRuntime) -> Result<(), Fail> {
         "a Int64~SELECT a FROM t LIMIT 5~1\n2\n|3\n|1\n2\n~*1\n2\n3\n1\n2\n",
     ];
     for case in CASES.iter() {
-        let case = format!(in rt.alloc(); "{case}%!out of memory{SERVED}")?;
+        let case = format!(in rt.alloc(); "{case}%!out of memory{SERVED}%!out of memory")?;
         let setting = Setting {
             serves: true,
             ..AMPLE

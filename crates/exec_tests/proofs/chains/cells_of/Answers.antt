@@ -15,7 +15,10 @@ returns-in-Ok-into_cells-clause-stored g c =
 pub returns-in-Ok-into_cells-clause-cells : goal.returns-in-Ok-into_cells-clause-cells
 returns-in-Ok-into_cells-clause-cells g c =
     let graph = c.in-Ok.graph in
-    let none : length graph.reserves ≡ 0 = search rules in
-    new-cells _ graph.boxes.items graph.wires graph.reserves c.args.workers _
-    (graph-of _ graph.ranks graph.wires graph.reserves graph.well_formed graph.one_each
-    graph.reserves_fit) (nil_from_length graph.reserves none) c.in-Ok-into_cells.ensures.cells
+    let none : length graph.reserves ≡ 0 = search rules in (
+      _,
+      new-cells _ graph.boxes.items graph.wires graph.reserves c.args.workers _
+          (graph-of _ graph.ranks graph.wires graph.reserves graph.well_formed graph.one_each
+          graph.reserves_fit) (nil_from_length graph.reserves none)
+          c.in-Ok-into_cells.ensures.cells,
+    )
