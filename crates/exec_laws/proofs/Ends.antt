@@ -1,14 +1,23 @@
 -- Where nothing is due: either each born node is over, or some resting node's view contradicts its
 -- last status.
-use Rattle.exec_laws.proofs.Imports.{CellPicture, ContradictsStatus, EdgeState, HasEdge, Input, IsBorn, IsNodeOver, IsNothingDue, IsStuck, IsTrue, List, MarkTells, Output, Running, StuckNode, SupportsStatus, Wire, [], append-nil, append_assoc, box_at, boxes_of, cell_at, input_count, length, length-map, no_cell, output_count, pushes_to, refl, rules, stuck_from, wire_at, ℕ, ◌<◌, ◌≡◌}
-use Rattle.exec_laws.proofs.Settled.{all-over, end-here, end-node, end-shown, node-there, over-holds}
+use Rattle.exec_laws.proofs.Imports.{CellPicture, ContradictsStatus, EdgeState, EndSettled, HasEdge, Input, IsBorn, IsNodeOver, IsNothingDue, IsStuck, IsTrue, List, MarkTells, Output, Port, Running, StuckNode, SupportsStatus, Wire, [], append-nil, append_assoc, box_at, boxes_of, cell_at, false, input_count, is_out_finished, is_resting, kept_flags, length, length-map, no_cell, output_count, port_flags, pushes_to, refl, rules, stuck_from, true, wire_at, ℕ, ◌<◌, ◌≡◌}
+use Rattle.exec_laws.proofs.Settled.{all-over, end-here, end-node, end-open, end-shown, node-there, over-holds, rests-so}
+use Rattle.exec_laws.proofs.Sides.{QuietEnd}
 use Rattle.exec_laws.specs.Ends.{IsDone}
+use Rattle.exec_laws.specs.declared.edges.NodeStatus.TheVariants as node
 use Rattle.std.proofs.Math.ListN.{get_or-map}
 
 -- the box of a cell
 pub box-of : (cells : List CellPicture) (n : ℕ) → box_at (boxes_of cells) n ≡ (cell_at cells n).box
 unfolding box_at
 box-of cells n = get_or-map (λ (c : CellPicture). c.box) cells n no_cell
+
+-- an end of an edge, as the mark of its node says
+end-settled : (q : Port) (c : CellPicture) (e : EdgeState) → QuietEnd q c e → MarkTells c
+    → (c.mark.state ≡ node.Resting → kept_flags c.box q ≡ port_flags c.view q)
+    → (is_out_finished e.flags ≡ false → is_resting c.mark.state ≡ true)
+    → EndSettled q c.box e.flags
+end-settled q c e h1 h2 h3 h4 = search (rules, rests-so)
 
 module _ (wires : List Wire) (cells : List CellPicture) (edges : ℕ → EdgeState)
     (r : Running (length cells) wires (cell_at cells) edges)
@@ -67,8 +76,25 @@ module _ (wires : List Wire) (cells : List CellPicture) (edges : ℕ → EdgeSta
           (search (rules, passed, ports, from_kept, to_kept, from_end, to_end));
     }
 
+  -- nothing is left to be told of an edge's port
+  settled : (e n : ℕ) (q : Port) → HasEdge wires n q e
+      → EndSettled q (box_at (boxes_of cells) n) (edges e).flags
+  settled e n q h = rw (box-of cells n) (end-settled q (cell_at cells n) (edges e)
+      (end-here r quiet due h) (marks-tell n (node-there r quiet due h))
+      (λ s. (rw s at (end-node r quiet due h).mark).kept q (end-shown r quiet due h))
+      (end-open r quiet due h))
+
   -- Where the view of a resting node contradicts its last status, its box isn't lawful, and the run
   -- is stuck there.
   pub run-stuck : (n : ℕ) (report : List StuckNode) → n < length cells → ContradictsStatus
-      (cell_at cells n) → report ≡ stuck_from 0 (boxes_of cells) → IsStuck (boxes_of cells) report n
-  run-stuck n report h1 h2 h3 = search (rules, boxes-len, box-of, marks-tell)
+      (cell_at cells n) → report ≡ stuck_from 0 (boxes_of cells) → IsStuck wires
+      (boxes_of cells) report n
+  run-stuck n report h1 h2 h3 = record {
+    ports = λ e. (edges e).flags;
+    settled = settled;
+    lists = h3;
+    at_rest = search (rules, boxes-len, box-of, marks-tell);
+    in_range = search (rules, boxes-len);
+    listed = search (rules, box-of, marks-tell);
+    unlawful = search (rules, box-of);
+  }

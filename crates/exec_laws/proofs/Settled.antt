@@ -47,7 +47,7 @@ module _ {count : ℕ} {wires : List Wire} {cells : ℕ → CellPicture} {edges 
         (port-below count wires r.graph n e p h)
 
     -- where a port isn't finished, the node at its end is at rest
-    end-open : is_out_finished (edges e).flags ≡ false → is_open n ≡ true
+    pub end-open : is_out_finished (edges e).flags ≡ false → is_open n ≡ true
     end-open unfinished = unless (is_open n) (is_out_finished (edges e).flags) (λ over.
         let ports = (over-holds n node-there (r.born e n p h) over).ports in
         search (rules, ports, end-shown, end-here)) unfinished

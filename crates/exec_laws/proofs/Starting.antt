@@ -1,5 +1,5 @@
 -- A graph before its first move.
-use Rattle.exec_laws.proofs.Imports.{Bool, BoxPicture, CellPicture, EdgeEndHolds, EdgeState, HasEdge, HoldsGraph, Input, IsBorn, IsFresh, IsNewNode, IsPort, List, MarkHolds, NodeHolds, None, Output, Port, Running, StandStill, Wire, ap, arith, cases_Bool, cond, false, false_from_ne_true, follows-new, get_or-replicate, in_count, inl, input_at, input_count, inr, length, length-replicate, new_edge, new_input, new_picture, no_flags, no_lists, out_count, output_at, output_count, position-still, pushes_to, refl, rules, sound-new, suc, true, wire_at, zero, ℕ, ◌<◌, ◌==◌, ◌∙◌, ◌≡◌}
+use Rattle.exec_laws.proofs.Imports.{Bool, BoxPicture, CellPicture, EdgeEndHolds, EdgeState, HasEdge, HasPort, HoldsGraph, Input, IsBorn, IsFresh, IsNewNode, IsPort, List, MarkHolds, NodeHolds, None, Output, Port, Running, StandStill, Wire, ap, arith, cases_Bool, cond, false, false_from_ne_true, follows-new, get_or-replicate, in_count, inl, input_at, input_count, inr, kept_flags, kept_input, kept_output, length, length-replicate, new_edge, new_input, new_picture, no_flags, no_lists, no_notes, out_count, output_at, output_count, port_flags, position-still, pushes_to, refl, rules, sound-new, suc, true, wire_at, zero, ℕ, ◌<◌, ◌==◌, ◌∙◌, ◌≡◌}
 use Rattle.exec_laws.proofs.Nodes.{not-blank}
 use Rattle.exec_laws.proofs.Seeing.{port-below}
 use Rattle.exec_laws.proofs.Sides.{input-itself, output-known, quiet-end}
@@ -11,15 +11,22 @@ pub new-view : (m n : ℕ) → let v = new_picture m n in (in_count v ≡ m) × 
 unfolding input_at output_at in_count out_count
 new-view m n = grind (arith, length-replicate, get_or-replicate)
 
+-- a box that was never prepared keeps what a new view shows
+kept-new : (m n : ℕ) (p : BoxPicture) → p.notes ≡ no_notes → (q : Port)
+    → HasPort (new_picture m n) q → kept_flags p q ≡ port_flags (new_picture m n) q
+unfolding kept_input kept_output input_at output_at in_count out_count
+kept-new m n p h1 q h2 = search (rules, length-replicate, get_or-replicate)
+
 -- a new view of a node with an output waits for room
-mark-new : (m n : ℕ) (p : BoxPicture) → p.notes.answer ≡ None
+mark-new : (m n : ℕ) (p : BoxPicture) → p.notes ≡ no_notes
     → MarkHolds (cond (n == 0) node.Due node.Resting) None m n p (new_picture m n)
 mark-new m zero p h1 = search rules
 mark-new m (suc k) p h1 =
     let shown = new-view m (suc k) in
     let first : 0 < suc k = omega arith in
     let here = shown.3 0 first in
-    search (rules, shown.3)
+    let kept = kept-new m (suc k) p h1 in
+    search (rules, shown.3, kept)
 
 pub new-node : (wires : List Wire) (n : ℕ) (c : CellPicture) → IsFresh c.box → IsNewNode wires n c
     → NodeHolds wires n c no_lists no_lists
@@ -34,7 +41,7 @@ new-node wires n c fresh h =
       view = rw h.view record { sound = sound-new ins outs; ins = shown.0; outs = shown.1 };
       numbers = h.numbers;
       kept = λ _. rw h.view (follows-new c.box ins outs fresh.notes);
-      mark = rw (h.mark, h.view) (mark-new ins outs c.box (ap (λ z. z.answer) fresh.notes));
+      mark = rw (h.mark, h.view) (mark-new ins outs c.box fresh.notes);
     }
 
 -- an end of an edge over which nothing passed yet

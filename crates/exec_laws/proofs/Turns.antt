@@ -1,5 +1,5 @@
 -- A node that has seen its ports is prepared.
-use Rattle.exec_laws.proofs.Imports.{FollowsKept, BoxHolds, BoxPicture, CellPicture, EdgeState, Flags, HasFinished, PictureHolds, Input, IsNodeOver, IsPort, IsTrue, ViewKnows, List, Lists, MarkHolds, NodeHolds, Output, Picture, Port, Prepared, Running, Some, Status, StatusComes, StatusHolds, NodeTurns, ViewHolds, Wire, [], ap, append-nil, append_assoc, as-kept-noted, changed-by-both, chunks_of, difference-calls, false, follows-noted, get_or-eq_default, in_count, inl, input_after, input_at, input_count, kept_input-of, kept_inputs-of, kept_output-of, kept_outputs-of, out_count, output_after, output_at, output_count, port_flags, position-still, pushed_at, pushes_to, refl, rules, state_after, sym, taken_out, with_pulled, with_pushed, ℕ, ◌++◌, ◌<◌, ◌∙◌, ◌≡◌, ◌≢◌, ◌≤◌}
+use Rattle.exec_laws.proofs.Imports.{FollowsKept, BoxHolds, BoxPicture, CellPicture, EdgeState, Flags, HasFinished, HasPort, PictureHolds, Input, IsNodeOver, IsPort, IsTrue, ViewKnows, List, Lists, MarkHolds, NodeHolds, Output, Picture, Port, Prepared, Running, Some, Status, StatusComes, StatusHolds, NodeTurns, ViewHolds, Wire, [], all_port_flags, ap, append-nil, append_assoc, as-kept-noted, changed-by-both, chunks_of, difference-calls, false, follows-noted, get_or-eq_default, in_count, inl, input_after, input_at, input_count, kept_flags, kept_input-of, kept_inputs-of, kept_output-of, kept_outputs-of, out_count, output_after, output_at, output_count, port_flags, position-still, pushed_at, pushes_to, refl, rules, state_after, sym, taken_out, with_pulled, with_pushed, ℕ, ◌++◌, ◌<◌, ◌∙◌, ◌≡◌, ◌≢◌, ◌≤◌}
 use Rattle.exec_laws.proofs.Nodes.{busy-born, moved-on}
 use Rattle.exec_laws.proofs.Ports.{Lies, changed-inputs, changed-outputs, full-unpushed, lies-after, past-unpushed, taken-left}
 use Rattle.exec_laws.proofs.Seeing.{port-below}
@@ -9,12 +9,18 @@ use Rattle.exec_laws.specs.declared.edges.NodeStatus.TheVariants as node
 
 -- ---- what the answer says of the node
 
+kept-noted : (q : BoxPicture) (w : Picture) → q.notes.view ≡ Some (all_port_flags w) → (p : Port)
+    → HasPort w p → kept_flags q p ≡ port_flags w p
+kept-noted q w e (Input i) lt = kept_input-of q w e i lt
+kept-noted q w e (Output o) lt = kept_output-of q w e o lt
+
 mark-after : (s : Status) (inputs outputs : ℕ) (q : BoxPicture) (v : Picture)
     → q.notes.answer ≡ Some (Prepared s) → q.notes.acted ≡ false
     → (IsTrue q.lawful → StatusHolds s v) → (IsTrue q.lawful → StatusComes s q)
     → (s ≡ status.Finished → IsNodeOver inputs outputs q v)
+    → (s ≢ status.Finished → q.notes.view ≡ Some (all_port_flags v))
     → MarkHolds (state_after s) (Some s) inputs outputs q v
-mark-after s inputs outputs q v h1 h2 h3 h4 h5 = search rules
+mark-after s inputs outputs q v h1 h2 h3 h4 h5 h6 = search (rules, kept-noted)
 
 past : (v w : Picture) (ins : Lists) (i : ℕ) → in_count v ≤ i → ins i ≡ []
     → with_pulled v w ins i ≡ []
@@ -139,6 +145,7 @@ module _ (m k : ℕ) (c d : CellPicture) (t : NodeTurns c d) (quiet : c.view.act
         ports = t.leaves.finished e;
         kept = λ l. has-finished l e;
       })
+      (λ ne. rw (left-so (λ e. absurd (ne e))) t.prepares.notes.view)
 
 turned-node : (wires : List Wire) (n : ℕ) (c d : CellPicture) (t : NodeTurns c d)
     → c.view.actions ≡ [] → (pulled pushed : Lists) → NodeHolds wires n c pulled pushed

@@ -1,7 +1,7 @@
 -- What is true of the boxes when a run has ended, over plain data.
-use Rattle.exec_laws.specs.Prelude.{Answer, ArePortsOf, BoxPicture, FaultHolds, FaultIsDue, Flags, IsRunning, Keeps, Lists, Loads, Prepared, Rests, Scheduled, Spec, Status, StuckNode, Table, Wire, WorkFault, input_count, is_ended, kept_input, kept_output, output_count, wire_at}
+use Rattle.exec_laws.specs.Prelude.{Answer, ArePortsOf, BoxPicture, FaultHolds, FaultIsDue, Flags, IsRunning, Input, Keeps, Lists, Loads, Output, Port, Prepared, ProducerKnows, Rests, Scheduled, Spec, Status, StuckNode, Table, Wire, WorkFault, input_count, is_ended, is_out_finished, kept_input, kept_output, output_count, wire_at}
 use Rattle.exec_laws.specs.Moves.{StaysBox, is_resting, is_waiting}
-use Rattle.exec_laws.specs.Runs.{CellPicture, HasFinished, IsBorn, MayRest, box_at, cell_at}
+use Rattle.exec_laws.specs.Runs.{CellPicture, HasEdge, HasFinished, IsBorn, MayRest, box_at, cell_at, kept_flags}
 use Rattle.std.specs.Prelude.{Bool, IsTrue, List, None, Option, Some, [], cond, false, is_some, length, map, not, suc, true, ℕ, ◌&&◌, ◌++◌, ◌<◌, ◌∷◌, ◌≡◌, ◌≢◌, ◌≤◌, ◌⊎◌}
 use Rattle.proc_api.specs.declared.status.Status.TheVariants as status
 use Rattle.proc_api.specs.declared.status.WorkFault.TheVariants as fault
@@ -80,9 +80,26 @@ stuck_from n (p ∷ boxes) =
     (record { node = n; last = last_status p.notes.answer } ∷ stuck_from (suc n) boxes)
     (stuck_from (suc n) boxes)
 
--- The report lists all born nodes that aren't over, and each of them is at rest. The named node is
--- one of them, and its box isn't lawful.
-pub record IsStuck (boxes : List BoxPicture) (report : List StuckNode) (node : ℕ) : Type 0 where
+-- the flags that were seen of a port are the port's; a producer may have seen a need that was taken
+-- back
+abbrev pub KnowsPort : Port → (seen port : Flags) → Type 0
+KnowsPort (Input i) seen port = seen ≡ port
+KnowsPort (Output o) seen port = ProducerKnows seen port
+
+-- An end of an edge where nothing is left to be told: a box whose node isn't over knows the port,
+-- and where the node is over the port is finished.
+pub record EndSettled (q : Port) (p : BoxPicture) (port : Flags) : Type 0 where
+  pub knows : is_unfinished p ≡ true → KnowsPort q (kept_flags p q) port
+  pub over : is_unfinished p ≡ false → is_out_finished port ≡ true
+
+-- The report lists all born nodes that aren't over, and each of them is at rest. Each edge's port
+-- has flags of which nothing is left to be told. The named node is one of those listed, and its box
+-- isn't lawful. The wires are those at the end.
+pub record IsStuck (wires : List Wire) (boxes : List BoxPicture) (report : List StuckNode)
+    (node : ℕ) : Type 0 where
+  pub ports : ℕ → Flags
+  pub settled : (e n : ℕ) (q : Port) → HasEdge wires n q e
+      → EndSettled q (box_at boxes n) (ports e)
   pub lists : report ≡ stuck_from 0 boxes
   pub at_rest : (n : ℕ) → n < length boxes → is_unfinished (box_at boxes n) ≡ true
       → MayRest (box_at boxes n).notes.answer

@@ -1,5 +1,5 @@
 -- What is true of a running graph between two moves: of each node, and of each edge.
-use Rattle.exec_laws.specs.Prelude.{AllInputsFinished, Answer, ArePortsOf, BoxPicture, DueCall, EdgeState, Flags, FollowsKept, Input, InputFollows, InputPort, IsAllFinished, IsGraph, IsRunning, IsSound, Keeps, Lists, MaySchedule, MayWork, NodeMark, NodeStatus, Output, OutputAllows, OutputFollows, Picture, Port, Prepared, ProducerKnows, Reserve, Rests, Scheduled, StandStill, Status, StatusComes, Table, Wire, in_count, input_after, input_at, input_count, is_out_finished, kept_inputs, kept_output, kept_outputs, new_picture, no_box, no_flags, out_count, output_after, output_at, output_count, pushes_to, wire_at}
+use Rattle.exec_laws.specs.Prelude.{AllInputsFinished, Answer, ArePortsOf, BoxPicture, DueCall, EdgeState, Flags, FollowsKept, HasPort, Input, InputFollows, InputPort, IsAllFinished, IsGraph, IsRunning, IsSound, Keeps, Lists, MaySchedule, MayWork, NodeMark, NodeStatus, Output, OutputAllows, OutputFollows, Picture, Port, Prepared, ProducerKnows, Reserve, Rests, Scheduled, StandStill, Status, StatusComes, Table, Wire, in_count, input_after, input_at, input_count, is_out_finished, kept_input, kept_inputs, kept_output, kept_outputs, new_picture, no_box, no_flags, out_count, output_after, output_at, output_count, port_flags, pushes_to, wire_at}
 use Rattle.std.specs.Prelude.{IsSome, IsTrue, List, None, Option, Some, [], false, is_some, length, slice_index_or, true, ℕ, ⊤, ◌++◌, ◌<◌, ◌||◌, ◌∷◌, ◌≡◌, ◌≢◌, ◌≤◌}
 use Rattle.proc_api.specs.declared.status.Status.TheVariants as status
 use Rattle.exec_laws.specs.declared.edges.DueCall.TheVariants as call
@@ -114,10 +114,17 @@ pub record HasFinished (inputs outputs : ℕ) (p : BoxPicture) : Type 0 where
   pub inputs_finished : AllInputsFinished p
   pub outputs_finished : (o : ℕ) → o < kept_outputs p → is_out_finished (kept_output p o) ≡ true
 
--- The node rests on its last answer, if it has one. A lawful box's answer is borne out by its view.
+-- the flags that the box keeps of a port
+abbrev pub kept_flags : BoxPicture → Port → Flags
+kept_flags p (Input i) = kept_input p i
+kept_flags p (Output o) = kept_output p o
+
+-- The node rests on its last answer, if it has one, and its box keeps the flags that the view
+-- shows. A lawful box's answer is borne out by its view.
 pub record IsAtRest (last : Option Status) (p : BoxPicture) (v : Picture) : Type 0 where
   pub answer : p.notes.answer ≡ last_answer last
   pub may_rest : MayRest p.notes.answer
+  pub kept : (q : Port) → HasPort v q → kept_flags p q ≡ port_flags v q
   pub rests : IsTrue p.lawful → Rests last v
 
 -- the node has finished, and so has each of its ports

@@ -135,7 +135,7 @@ pub record EndsWell (wires : List Wire) (cells : List WholeCell) : Type 0 where
   pub stuck : (n : ℕ) (report : List StuckNode) → n < length (pictures cells)
       → ContradictsStatus (cell_at (pictures cells) n)
       → report ≡ stuck_from 0 (boxes_of (pictures cells))
-      → IsStuck (boxes_of (pictures cells)) report n
+      → IsStuck wires (boxes_of (pictures cells)) report n
 
 abbrev pub EndLaw : Type 0
 EndLaw = (wires : List Wire) (table_edge : ℕ → ℕ) (b : Board) (cells : List WholeCell)

@@ -2,7 +2,7 @@ mod Imports
 pub mod Lists
 pub mod Visits
 mod Settling
-mod Reports
+pub mod Reports
 pub mod Boxes
 mod Surveys
 pub mod CellChanges

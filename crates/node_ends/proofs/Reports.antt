@@ -69,8 +69,9 @@ module _ {P : Type 0} (seen : P → BoxPicture) (cells : List (NodeCell P)) wher
     -- where one contradicts it the run is stuck there
     pub settled-stuck : (n : ℕ) (report : List StuckNode) → n < length cells
         → ContradictsStatus (cell_at (pictures_of seen cells) n)
-        → report ≡ stuck_from 0 (boxes_in seen cells) → IsStuck (boxes_in seen cells) report n
-    settled-stuck n report lt denied lists = subst (λ l. IsStuck l report n) law-boxes
+        → report ≡ stuck_from 0 (boxes_in seen cells) → IsStuck g.wires (boxes_in seen cells)
+        report n
+    settled-stuck n report lt denied lists = subst (λ l. IsStuck g.wires l report n) law-boxes
         ((end-law g.wires g.table_edge s.board wholes s.settled).stuck n report
         (omega (arith, lt, count))
         (to-law ContradictsStatus n lt

@@ -58,11 +58,11 @@ IsSettledEnd (end.Stopped n s) = ⊥
 -- the end of a run in which nothing is pending
 abbrev pub SettledEndHolds : NodesEnd → List Wire → List BoxPicture → Type 0
 SettledEndHolds end.Done wires boxes = IsDone wires boxes
-SettledEndHolds (end.Stuck report n) wires boxes = IsStuck boxes report n
+SettledEndHolds (end.Stuck report n) wires boxes = IsStuck wires boxes report n
 SettledEndHolds (end.Stopped n s) wires boxes = ⊥
 
 abbrev pub NodesEndHolds : NodesEnd → List Wire → (before after : List BoxPicture) → Type 0
 NodesEndHolds end.Done wires before after = IsDone wires after × GrowthsStay before after
 NodesEndHolds (end.Stuck report n) wires before after =
-    IsStuck after report n × GrowthsStay before after
+    IsStuck wires after report n × GrowthsStay before after
 NodesEndHolds (end.Stopped n s) wires before after = StopsAt n s before after

@@ -15,7 +15,7 @@ settled-end end.Done b d g h =
     }
 settled-end (end.Stuck report n) b d g h =
     record {
-      grown = record { births = g.grows.births; are = g.grows.are; holds = h };
+      grown = record { births = g.grows.births; are = g.grows.are; holds = rw g.grows.wires at h };
       all = g.grows.all;
     }
 settled-end (end.Fault n f) b d g h = absurd h

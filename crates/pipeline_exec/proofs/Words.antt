@@ -11,7 +11,7 @@ pub use Rattle.exec_laws.proofs.Nodes.{at-node, busy-born, edge_ends_differ, not
 pub use Rattle.exec_laws.proofs.Seeing.{may-see, see-actions, see-keeps, see-knows, seeing_runs_on}
 pub use Rattle.exec_laws.proofs.Starting.{start_runs}
 pub use Rattle.exec_laws.proofs.Turns.{prepared_runs_on}
-pub use Rattle.exec_laws.proofs.Imports.{Action, Acts, ActsCell, All, All-from_get_or, AreAllBorn, AreBirths, AreEdgesOf, AreOnce, AsksToGrow, Birth, Bool, BoxPicture, CellPicture, ContradictsStatus, Flags, GivenBack, GivesBox, GrewCell, GrowthForm, HasEdge, HoldsGraph, Input, IsBorn, IsFault, IsFresh, IsGraph, IsNewNode, IsNothingDue, IsPort, IsRunning, IsStuck, IsTrue, KeepsBox, KeepsFault, Left, List, MarkHolds, MarkTells, NodeHolds, NodeTurns, None, Option, Output, Picture, Port, QuietBut, Running, Some, SpecForm, Status, StaysBox, StaysOrActs, SupportsStatus, Table, Touches, ViewKnows, Wire, WorkFault, [], action_port, after_grow, and_parts, ap, append-nil, append_assoc, arith, blanks_of, both_ways, boxes_of, cases_Bool, cases_eq, cases_lt, cell_at, cond, cond_both, count_by, drop, drop-cons, edge_at, end_node, eq-eqb, false, false_from_ne_true, form_at, form_kind, get_or, get_or-append_seam, get_or-eq_default, get_or-map, get_or-replicate, get_or-set_other, get_or-set_same, get_or_append_left, get_or_default, grown_ranks, grown_wires, growth_flaw, growths_of, has_gap, has_wrong_end, in_count, inl, input-of-count, input_count, inr, is_me, is_named, is_resting, is_some, is_told, is_waiting, kept_growths, length, length-append, length-map, length-replicate, length-set, lifted, list_any, list_any_at, ltb-true, map, nat_lt, ne_eqb, new_edge, new_mark, new_picture, new_wire, new_wires, no_box, no_cell, no_wire, not, or_parts, out_count, output-of-count, output_count, peer, places_for, port_edge, refl, replicate, reserve_of, rules, set, set_ranks, stuck_from, subst, suc, sum_by-cons, sym, told_if, true, unloaded, wired_by, zero, ℕ, ◌&&◌, ◌++◌, ◌+◌, ◌-◌, ◌<◌, ◌==◌, ◌∙◌, ◌∷◌, ◌≡◌, ◌≢◌, ◌≤◌, ◌⊎◌}
+pub use Rattle.exec_laws.proofs.Imports.{Action, Acts, ActsCell, All, All-from_get_or, AreAllBorn, AreBirths, AreEdgesOf, AreOnce, AsksToGrow, Birth, Bool, BoxPicture, CellPicture, ContradictsStatus, Flags, GivenBack, GivesBox, GrewCell, GrowthForm, HasEdge, HoldsGraph, Input, IsBorn, IsFault, IsFresh, IsGraph, IsNewNode, IsNothingDue, IsPort, IsRunning, IsStuck, IsTrue, KeepsBox, KeepsFault, Left, List, MarkHolds, NodeHolds, NodeTurns, None, Option, Output, Picture, Port, QuietBut, Running, Some, SpecForm, Status, StaysBox, StaysOrActs, SupportsStatus, Table, Touches, ViewKnows, Wire, WorkFault, [], action_port, after_grow, and_parts, ap, append-nil, arith, blanks_of, both_ways, boxes_of, cases_Bool, cases_eq, cases_lt, cell_at, cond, cond_both, count_by, drop, drop-cons, edge_at, end_node, eq-eqb, false, false_from_ne_true, form_at, form_kind, get_or, get_or-append_seam, get_or-eq_default, get_or-map, get_or-replicate, get_or-set_other, get_or-set_same, get_or_append_left, get_or_default, grown_ranks, grown_wires, growth_flaw, growths_of, has_gap, has_wrong_end, in_count, inl, input-of-count, input_count, inr, is_me, is_named, is_resting, is_some, is_told, is_waiting, kept_growths, length, length-append, length-map, length-replicate, length-set, lifted, list_any, list_any_at, ltb-true, map, nat_lt, ne_eqb, new_edge, new_mark, new_picture, new_wire, new_wires, no_box, no_cell, no_wire, not, or_parts, out_count, output-of-count, output_count, peer, places_for, port_edge, refl, replicate, reserve_of, rules, set, set_ranks, stuck_from, subst, suc, sum_by-cons, sym, told_if, true, unloaded, wired_by, zero, ℕ, ◌&&◌, ◌++◌, ◌+◌, ◌-◌, ◌<◌, ◌==◌, ◌∙◌, ◌∷◌, ◌≡◌, ◌≢◌, ◌≤◌, ◌⊎◌}
 pub use Rattle.exec_laws.specs.Births.{left_of}
 pub use Rattle.exec_laws.specs.declared.edges.StuckNode.{StuckNode}
 pub use Rattle.graph_checks.specs.Flaws.{grown_kinds, ranks_of}

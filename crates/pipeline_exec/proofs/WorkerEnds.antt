@@ -154,7 +154,11 @@ module _ {P : Type 0} (seen : P → BoxPicture) (b : Begun) (wires : List Wire)
     all = all-births h.1;
   }
   cells-end (nodes_end.Stuck report n) e h i = rw i record {
-    grown = record { births = []; are = births after back; holds = h.0 };
+    grown = record {
+      births = [];
+      are = births after back;
+      holds = rw (append-nil, begins.wires_are) h.0;
+    };
     all = all-births h.1;
   }
   cells-end (nodes_end.Stopped n (cause.Fault f)) e h i = fault-ends n f e h i

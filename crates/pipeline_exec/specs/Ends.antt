@@ -54,7 +54,7 @@ pub record EndsBadly (b : Begun) (boxes : List BoxPicture) (node : ℕ)
 abbrev pub ExecEndHolds : ExecEnd → Begun → List BoxPicture → Type 0
 ExecEndHolds end.Done b boxes = HasGrownByAll b boxes (λ wires. IsDone wires boxes)
 ExecEndHolds (end.Stuck report node) b boxes =
-    HasGrownByAll b boxes (λ wires. IsStuck boxes report node)
+    HasGrownByAll b boxes (λ wires. IsStuck wires boxes report node)
 ExecEndHolds (end.Fault node f) b boxes = HasGrown b boxes (λ wires. IsFault boxes node f)
 ExecEndHolds (end.BadGrowth node f) b boxes = EndsBadly b boxes node f
 ExecEndHolds end.Memory b boxes = ⊤
@@ -81,7 +81,7 @@ IsFaultEnd (end.BadGrowth n g) node f = ⊥
 -- where nothing is due, the run is done or stuck
 abbrev pub EndsSettled : ExecEnd → List Wire → List BoxPicture → Type 0
 EndsSettled end.Done wires boxes = IsDone wires boxes
-EndsSettled (end.Stuck report node) wires boxes = IsStuck boxes report node
+EndsSettled (end.Stuck report node) wires boxes = IsStuck wires boxes report node
 EndsSettled (end.Fault n g) wires boxes = ⊥
 EndsSettled (end.BadGrowth n g) wires boxes = ⊥
 EndsSettled end.Memory wires boxes = ⊥

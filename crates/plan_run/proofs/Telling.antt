@@ -150,28 +150,9 @@ module _ (R S : List BoxPicture → Type 0) (by : (ended : List BoxPicture) → 
   pub fault-by : (f : PlanFault) (B C : (Begun → Type 0) → Type 0)
       → ((P Q : Begun → Type 0) → ((b : Begun) → P b → Q b) → B P → C Q)
       → PlanFaultHolds f B R → PlanFaultHolds f C S
-  fault-by (end.Fault node f) B C up h = up _ _ (λ b h. record {
-    ended = h.ended;
-    runs = by h.ended h.runs;
-    grown = h.grown;
-    reader = h.reader;
-  }) h
-  fault-by (end.Stuck k) B C up h = record {
-    ended = h.ended;
-    runs = by h.ended h.runs;
-    report = h.report;
-    node = h.node;
-    stuck = h.stuck;
-    of_kind = h.of_kind;
-  }
-  fault-by (end.BadGrowth k) B C up h = up _ _ (λ b h. record {
-    ended = h.ended;
-    runs = by h.ended h.runs;
-    node = h.node;
-    flaw = h.flaw;
-    bad = h.bad;
-    of_kind = h.of_kind;
-  }) h
+  fault-by (end.Fault node f) B C up h = up _ _ (λ b h. grind arith) h
+  fault-by (end.Stuck k) B C up h = up _ _ (λ b h. grind arith) h
+  fault-by (end.BadGrowth k) B C up h = up _ _ (λ b h. grind arith) h
   fault-by end.Memory B C up h = h
 
 pub begins-by : (form : GraphForm) (ks all : List Kind) → ks ≡ all → (P Q : Begun → Type 0)

@@ -151,12 +151,12 @@ pub record FailsWith (R : List BoxPicture → Type 0) (node : ℕ) (f : WorkFaul
     pub reader : ReadsByKind (box_at ended node)
 
 -- the run ended stuck, at a node whose box is of the kind and isn't lawful
-pub record StuckWith (R : List BoxPicture → Type 0) (k : Kind) : Type 0 where
+pub record StuckWith (R : List BoxPicture → Type 0) (k : Kind) (b : Begun) : Type 0 where
   pub ended : List BoxPicture
   pub runs : R ended
   pub report : List StuckNode
   pub node : ℕ
-  pub stuck : IsStuck ended report node
+  pub stuck : HasGrownByAll b ended (λ wires. IsStuck wires ended report node)
   pub of_kind : (box_at ended node).kind ≡ k
 
 -- the run ended by a growth with a flaw, of a node whose box is of the kind
@@ -172,7 +172,7 @@ pub record FlawedWith (R : List BoxPicture → Type 0) (k : Kind) (b : Begun) : 
 abbrev pub PlanFaultHolds : PlanFault → ((Begun → Type 0) → Type 0) → (List BoxPicture → Type 0)
     → Type 0
 PlanFaultHolds (end.Fault node f) B R = B (FailsWith R node f)
-PlanFaultHolds (end.Stuck k) B R = StuckWith R k
+PlanFaultHolds (end.Stuck k) B R = B (StuckWith R k)
 PlanFaultHolds (end.BadGrowth k) B R = B (FlawedWith R k)
 PlanFaultHolds end.Memory B R = ⊤
 

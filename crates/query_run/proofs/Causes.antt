@@ -160,24 +160,29 @@ module _ {c : Command} {q : Checked} {before : List BoxPicture} {nodes : List Dr
       (λ list named bad is. (list.path, named, bad)) (λ _. g.holds.grown.holds.keeps.holds.1))
   plan-cause (end.Stuck k) left g = record {
     runnable = runnable;
-    ran = ran g.ended g.runs;
-    node = g.node;
-    in_range = g.stuck.in_range;
-    stopped = inl (g.report, g.stuck);
-    of_kind = g.of_kind;
-    unlawful = g.stuck.unlawful;
+    ran = ran g.holds.ended g.holds.runs;
+    node = g.holds.node;
+    in_range = g.holds.stuck.grown.holds.in_range;
+    stopped = record {
+      boxes = g.boxes;
+      kinds_are = g.kinds_are;
+      starting = g.starting;
+      holds = inl (g.holds.report, g.holds.stuck);
+    };
+    of_kind = g.holds.of_kind;
+    unlawful = g.holds.stuck.grown.holds.unlawful;
   }
   plan-cause (end.BadGrowth k) left g = record {
     runnable = runnable;
     ran = ran g.holds.ended g.holds.runs;
     node = g.holds.node;
     in_range = g.holds.bad.bad.in_range;
-    stopped = inr (record {
+    stopped = record {
       boxes = g.boxes;
       kinds_are = g.kinds_are;
       starting = g.starting;
-      holds = (g.holds.flaw, g.holds.bad);
-    });
+      holds = inr (g.holds.flaw, g.holds.bad);
+    };
     of_kind = g.holds.of_kind;
     unlawful = flawed-unlawful copies runnable keeps k g;
   }

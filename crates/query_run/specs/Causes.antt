@@ -19,7 +19,7 @@ use Rattle.exec_laws.specs.declared.edges.StuckNode.{StuckNode}
 use Rattle.exec_laws.specs.declared.growth.GrowthFlaw.{GrowthFlaw}
 use Rattle.plan_laws.specs.Ended.{used_part}
 use Rattle.plan_laws.specs.declared.nodes.DraftNode.{DraftNode}
-use Rattle.pipeline_exec.specs.Ends.{EndsBadly}
+use Rattle.pipeline_exec.specs.Ends.{EndsBadly, HasGrownByAll}
 use Rattle.plan_run.specs.Plans.{GivesBack, GraphBegins, spec_at, taken_at}
 use Rattle.query_run.specs.declared.ending.PartName.{PartName}
 use Rattle.query_run.specs.declared.ending.PartFailure.{PartFailure}
@@ -122,9 +122,9 @@ pub record FailsAtPart (name : PartName) (f : PartFailure) (c : Command) (q : Ch
 
 -- the run was left stuck with this node, or ended by a growth of the node that has a flaw
 abbrev pub IsStoppedBy : List DraftNode → (ended : List BoxPicture) → (node : ℕ) → Type 0
-IsStoppedBy nodes ended node = ((report : List StuckNode) × IsStuck ended report node)
-    ⊎ GraphBegins (formed nodes) (kinds_for nodes)
-    (λ b. (f : GrowthFlaw) × EndsBadly b ended node f)
+IsStoppedBy nodes ended node = GraphBegins (formed nodes) (kinds_for nodes) (λ b.
+    ((report : List StuckNode) × HasGrownByAll b ended (λ wires. IsStuck wires ended report node))
+    ⊎ ((f : GrowthFlaw) × EndsBadly b ended node f))
 
 -- The plan ran, and was stopped by a node whose box is of the kind and isn't lawful.
 pub record EndsUnlawful (k : Kind) (c : Command) (q : Checked) (before after : List BoxPicture)
