@@ -1,5 +1,5 @@
 -- Every step keeps the laws: of edges, of nodes, and of tokens.
-use Rattle.core_laws.proofs.Imports.{Act, Bool, Close, CoreState, EdgeHolds, Edges, EndTold, EndsAreTold, Finish, Flags, Laws, List, NodeState, NodeStateHolds, Nodes, None, Option, PortState, Pull, Push, Sees, Sight, Sizes, Some, Step, TokensHold, Unwant, Want, Wire, WireHolds, WordHolds, [], acted, acting_end, adding, after, and_parts, ap, arith, bit_at_end, bit_of, bit_or, born, both_ways, cases_Bool, cases_eq, changed, cond, cond_both, counts, edges_of, end_of, eqb, eqb-true, false, fits, flags_at, fresh_sight, get_or-le-sum_by, get_or-set_other, get_or-set_same, get_or_default, has, inl, inr, is_edge, is_excused, is_held_end, is_none, is_none_of, is_over, is_set, is_unborn, is_updated, knows, lacks, learned, learning, left, length, length-set, looked, map-append, marked, may, may_act, may_wire, names, ne_eqb, no_node, no_port, node_at, node_of, not, once, or_cases, or_left, or_right, peer_in, port_after, port_at, port_of, put_node, refl, seeing, set, set-get_or, spent, subst, sum_by-le, sum_by-set, sym, taken, telling, tells, true, weight, wire_ok, wiring, with_bit, with_tokens, without, ℕ, ◌&&◌, ◌*◌, ◌+◌, ◌-◌, ◌<◌, ◌^◌, ◌||◌, ◌∙◌, ◌∷◌, ◌≡◌, ◌≢◌, ◌≤◌}
+use Rattle.core_laws.proofs.Imports.{Act, AreEdgesOnce, Bool, Close, CoreState, EdgeHolds, Edges, EndTold, EndsAreTold, Finish, Flags, Laws, List, NodeState, NodeStateHolds, Nodes, None, Option, PortState, Pull, Push, Sees, Sight, Sizes, Some, Step, TokensHold, Unwant, Want, Wire, WireHolds, WordHolds, [], acted, acting_end, adding, after, and_parts, ap, arith, bit_at_end, bit_of, bit_or, born, both_ways, cases_Bool, cases_eq, changed, cond, cond_both, counts, edges_of, end_of, eqb, eqb-true, false, fits, flags_at, fresh_sight, get_or-le-sum_by, get_or-set_other, get_or-set_same, get_or_default, has, inl, inr, is_edge, is_excused, is_held_end, is_none, is_none_of, is_over, is_set, is_unborn, is_updated, knows, lacks, learned, learning, left, length, length-set, looked, map-append, marked, may, may_act, may_wire, names, ne_eqb, no_node, no_port, node_at, node_of, not, or_cases, or_left, or_right, peer_in, port_after, port_at, port_of, put_node, refl, seeing, set, set-get_or, spent, subst, sum_by-le, sum_by-set, sym, taken, telling, tells, true, weight, wire_ok, wiring, with_bit, with_tokens, without, ℕ, ◌&&◌, ◌*◌, ◌+◌, ◌-◌, ◌<◌, ◌^◌, ◌||◌, ◌∙◌, ◌∷◌, ◌≡◌, ◌≢◌, ◌≤◌}
 use Rattle.chunk_data.proofs.Places.{at-set}
 use Rattle.core_laws.specs.declared.types.Step.TheVariants as step
 use Rattle.core_laws.proofs.Lists.{has-filter, once-filter, has-last, has-adding, once-last, once-adding, edges-seeing, seeing-here, seeing-other, flags-unknown, flags-last}
@@ -210,10 +210,6 @@ looking-has : (t : Bool) (e d : ℕ) (l : List ℕ)
 looking-has true e d l = has-filter (λ d. not (eqb d e)) l d
 looking-has false e d l = refl
 
-once-either : (t : Bool) (x y : List ℕ) → once x ≡ true → once y ≡ true → once (cond t x y) ≡ true
-once-either true x y a b = a
-once-either false x y a b = b
-
 -- the node's view after it looked at e, or acted on it
 abbrev viewing : ℕ → Flags → Bool → Bool → NodeState → NodeState
 viewing e f looks owes nd = record nd {
@@ -233,14 +229,10 @@ viewing-holds e f looks owes nd held known h = record {
       ];
   unlooked = λ d z. let q = ap (has d) (edges-seeing e f nd.seen) in
       grind (arith, q, z, looking-has looks e d nd.unlooked, h.unlooked d);
-  each_once = let q = ap once (edges-seeing e f nd.seen) in let o = h.each_once in grind (
-    arith,
-    q,
-    o,
-    once-either looks (without e nd.unlooked) nd.unlooked,
-    once-filter (λ d. not (eqb d e)) nd.unlooked,
-    once-either owes (adding e nd.owes) nd.owes,
-    once-adding e nd.owes,
+  each_once = let o = h.each_once in (
+    subst (λ l. AreEdgesOnce l) (sym (edges-seeing e f nd.seen)) o.0,
+    cond_both looks _ _ (λ l. AreEdgesOnce l) (λ _. once-filter _ nd.unlooked o.1) (λ _. o.1),
+    cond_both owes _ _ (λ l. AreEdgesOnce l) (λ _. once-adding e nd.owes o.2) (λ _. o.2),
   );
 }
 
@@ -345,7 +337,7 @@ taken-kept c n k inside some running one edges nodes =
       word = word-one 62 true refl refl;
       owes = λ d z. (and_parts _ _ (h.owes d z)).1;
       unlooked = λ d z. grind (arith, has-filter (is_updated c n) known d, z);
-      each_once = grind (arith, once-filter (is_updated c n) known, h.each_once);
+      each_once = let o = h.each_once in (o.0, once-filter (is_updated c n) known o.0, o.2);
     })
     (λ d b w q ok t z. let y : is_set (node_at c n).word (bit_at_end n (port_at c d).wire) ≡ is_set
     (node_at c n).word (bit_of b w) = ap (λ x. is_set (node_at c n).word (bit_at_end n x)) q
@@ -506,7 +498,7 @@ mark-kept c n e m k inside some x edges nodes = record {
       word = h.word;
       owes = λ d z. let y = has-filter t nd.owes d in grind (arith, y, z, h.owes d);
       unlooked = h.unlooked;
-      each_once = let y = once-filter t nd.owes in let z = h.each_once in grind (arith, y, z);
+      each_once = let o = h.each_once in (o.0, o.1, once-filter t nd.owes o.2);
     }
 
     set-bit : (b : Bool) (w : Wire) → (port_at c e).wire ≡ Some w → end_of (not b) w ≡ n
@@ -548,8 +540,11 @@ learning-holds e nd unknown h =
       owes = λ d z. let q = ap (has d) k in grind (arith, q, has-last e d known, h.owes d, z);
       unlooked = λ d z. let q = ap (has d) k in
           grind (arith, q, has-last e d known, has-adding e d nd.unlooked, h.unlooked d, z);
-      each_once = let q = ap once k in let o = h.each_once in
-          grind (arith, q, o, once-last e known, unknown, once-adding e nd.unlooked);
+      each_once = let o = h.each_once in (
+        subst (λ l. AreEdgesOnce l) (sym k) (once-last e known unknown o.0),
+        once-adding e nd.unlooked o.1,
+        o.2,
+      );
     }
 
 -- what a node knows that learned e

@@ -1,5 +1,5 @@
 -- Places in lists, sets of edges as lists, and sights in lists.
-use Rattle.core_laws.proofs.Imports.{Bool, Flags, List, Sight, [], adding, arith, edges_of, eqb, false, filter, flags_at, has, knows, no_flags, once, refl, seeing, set, true, ℕ, ◌&&◌, ◌++◌, ◌||◌, ◌∷◌, ◌≡◌, ◌≢◌}
+use Rattle.core_laws.proofs.Imports.{AreEdgesOnce, AreOnce-append, AreOnce-head, AreOnce-tail, Bool, Flags, List, Sight, [], adding, arith, both_ways, cond_both, edges_of, eq-eqb, eqb, false, filter, flags_at, get_or, has, knows, length, list_any_at, ne_eqb, no_flags, refl, seeing, set, suc, true, ℕ, ◌&&◌, ◌++◌, ◌<◌, ◌==◌, ◌||◌, ◌∷◌, ◌≡◌, ◌≢◌}
 
 -- ---- sets
 
@@ -8,28 +8,60 @@ pub has-filter : (t : ℕ → Bool) (l : List ℕ) (d : ℕ) → has d (filter t
 has-filter t [] d = grind arith
 has-filter t (x ∷ xs) d = grind (arith, has-filter t xs d)
 
--- each is kept at most once
-pub once-filter : (t : ℕ → Bool) (l : List ℕ) → once l ≡ true → once (filter t l) ≡ true
-once-filter t [] h = h
-once-filter t (x ∷ xs) h = grind (arith, once-filter t xs, has-filter t xs x)
-
 -- what a list has with one more at its end
 pub has-last : (e d : ℕ) (l : List ℕ) → has d (l ++ e ∷ []) ≡ (has d l || eqb e d)
 has-last e d [] = grind arith
 has-last e d (x ∷ xs) = grind (arith, has-last e d xs)
 
--- a list with one more that it hasn't names each at most once
-pub once-last : (e : ℕ) (l : List ℕ) → has e l ≡ false → once l ≡ true → once (l ++ e ∷ []) ≡ true
-once-last e [] n h = refl
-once-last e (x ∷ xs) n h = grind (arith, once-last e xs, has-last e x xs)
+has-none : (e : ℕ) (l : List ℕ) → ((k : ℕ) → k < length l → get_or l k 0 ≢ e) → has e l ≡ false
+has-none e [] h = refl
+has-none e (x ∷ xs) h = let here = h 0 (omega arith) in
+    grind (arith, here, ne_eqb x e, has-none e xs (λ k lt. h (suc k) (omega (arith, lt))))
+
+-- where no edge is named
+pub once-none : AreEdgesOnce []
+unfolding AreEdgesOnce
+once-none j k lt = absurd (omega (arith, lt))
+
+-- the first of numbers that stand once isn't among the others
+pub once-head : (e : ℕ) (l : List ℕ) → AreEdgesOnce (e ∷ l) → has e l ≡ false
+unfolding AreEdgesOnce
+once-head e l h = has-none e l (AreOnce-head e l h)
+
+-- those behind the first are named once too
+pub once-tail : (e : ℕ) (l : List ℕ) → AreEdgesOnce (e ∷ l) → AreEdgesOnce l
+unfolding AreEdgesOnce
+once-tail e l h = AreOnce-tail e l h
+
+-- numbers that stand once, and one more that isn't among them
+pub once-cons : (e : ℕ) (l : List ℕ) → has e l ≡ false → AreEdgesOnce l → AreEdgesOnce (e ∷ l)
+unfolding AreEdgesOnce
+once-cons e l none h = AreOnce-append (λ d. d ≡ e) (e ∷ []) l (λ i j li lj _. omega
+    (arith, li, lj)) h (λ j lt. grind (arith, lt))
+    (λ k lt q. both_ways _ none (list_any_at (λ d. d == e) l k 0 lt (eq-eqb _ _ q)))
+
+-- the same with one more at the end
+pub once-last : (e : ℕ) (l : List ℕ) → has e l ≡ false → AreEdgesOnce l → AreEdgesOnce (l ++ e ∷ [])
+once-last e [] none h = once-cons e [] none h
+once-last e (x ∷ xs) none h = once-cons x (xs ++ e ∷ [])
+    (let first = once-head x xs h in grind (arith, first, has-last e x xs))
+    (once-last e xs (grind arith) (once-tail x xs h))
+
+-- each is kept at most once
+pub once-filter : (t : ℕ → Bool) (l : List ℕ) → AreEdgesOnce l → AreEdgesOnce (filter t l)
+once-filter t [] h = h
+once-filter t (x ∷ xs) h = let left = once-filter t xs (once-tail x xs h) in
+    let first = once-head x xs h in cond_both (t x) _ _ (λ l. AreEdgesOnce l)
+    (λ _. once-cons x (filter t xs) (grind (arith, first, has-filter t xs x)) left) (λ _. left)
 
 -- what a set has with one more
 pub has-adding : (e d : ℕ) (l : List ℕ) → has d (adding e l) ≡ (has d l || eqb e d)
 has-adding e d l = grind (arith, has-last e d l)
 
 -- a set with one more names each at most once
-pub once-adding : (e : ℕ) (l : List ℕ) → once l ≡ true → once (adding e l) ≡ true
-once-adding e l h = grind (arith, once-last e l)
+pub once-adding : (e : ℕ) (l : List ℕ) → AreEdgesOnce l → AreEdgesOnce (adding e l)
+once-adding e l h =
+    cond_both (has e l) _ _ (λ l. AreEdgesOnce l) (λ _. h) (λ none. once-last e l none h)
 
 -- ---- sights
 

@@ -1,6 +1,6 @@
 -- The state at the start meets the laws.
-use Rattle.core_laws.proofs.Imports.{AllPass-from_list_all, Bool, EdgeHolds, Edges, Flags, Laws, List, NodeState, NodeStateHolds, Nodes, None, Sees, Sight, Sizes, Some, TokensHold, Wire, WordHolds, [], and_parts, ap, arith, both_ways, cases_lt, cond_both, counts, edges_of, end_of, false, filter, fits, flags_at, fresh_sight, get_or, get_or-map-range_with_len, get_or_past, has, has_output_edge, inl, inr, is_end_among, is_reserved_node, knows, lacks, leb, length, length-map-range_with_len, ltb, map, names, no_flags, no_node, no_port, no_wire, node_at, once, port_at, range_with_len, refl, reserved_edge_count, start, start_node, start_port, start_word, subst, suc, sum_by, sum_by-cons, sym, true, weight, wire_fits, wire_ok, zero, ℕ, ◌&&◌, ◌+◌, ◌<◌, ◌^◌, ◌∙◌, ◌∷◌, ◌≡◌, ◌≤◌}
-use Rattle.core_laws.proofs.Lists.{has-filter, once-filter}
+use Rattle.core_laws.proofs.Imports.{AllPass-from_list_all, AreEdgesOnce, Bool, EdgeHolds, Edges, Flags, Laws, List, NodeState, NodeStateHolds, Nodes, None, Sees, Sight, Sizes, Some, TokensHold, Wire, WordHolds, [], and_parts, ap, arith, both_ways, cases_lt, cond_both, counts, edges_of, end_of, false, filter, fits, flags_at, fresh_sight, get_or, get_or-map-range_with_len, get_or_past, has, has_output_edge, inl, inr, is_end_among, is_reserved_node, knows, lacks, leb, length, length-map-range_with_len, ltb, map, names, no_flags, no_node, no_port, no_wire, node_at, port_at, range_with_len, refl, reserved_edge_count, start, start_node, start_port, start_word, subst, suc, sum_by, sum_by-cons, sym, true, weight, wire_fits, wire_ok, zero, ℕ, ◌&&◌, ◌+◌, ◌<◌, ◌^◌, ◌∙◌, ◌∷◌, ◌≡◌, ◌≤◌}
+use Rattle.core_laws.proofs.Lists.{has-filter, once-cons, once-filter, once-none}
 use Rattle.core_laws.proofs.Bits.{word-one, word-idle}
 use Rattle.core_laws.proofs.Moves.{same-flags, lacks-none}
 
@@ -42,9 +42,10 @@ has-range : (a n e : ℕ) → has e (range_with_len a n) ≡ (leb a e && ltb e (
 has-range a zero e = grind arith
 has-range a (suc n) e = grind (arith, has-range (a + 1) n e)
 
-once-range : (a n : ℕ) → once (range_with_len a n) ≡ true
-once-range a zero = refl
-once-range a (suc n) = grind (arith, once-range (a + 1) n, has-range (a + 1) n a)
+once-range : (a n : ℕ) → AreEdgesOnce (range_with_len a n)
+once-range a zero = once-none
+once-range a (suc n) =
+    once-cons a _ (grind (arith, has-range (a + 1) n a)) (once-range (a + 1) n)
 
 -- a node knows the wires that name it
 pub learned-start : (s : Sizes) (e m : ℕ) → knows e (node_at (start s) m).seen ≡ true
@@ -75,7 +76,8 @@ node-start s n = record {
   unlooked = λ e z. z;
   each_once = let all = range_with_len 0 (length s.wires) in let p = is_end_among n s.wires in
       let o = once-filter (λ e. p (fresh_sight e)) all (once-range 0 (length s.wires)) in
-      let k = ap once (edges-fresh p all) in grind (arith, o, k);
+      let known = subst (λ l. AreEdgesOnce l) (sym (edges-fresh p all)) o in
+      (known, known, once-none);
 }
 
 -- ---- the laws
@@ -123,7 +125,7 @@ start-nodes s = record {
     word = word-idle;
     owes = λ e z. absurd (both_ways false refl z);
     unlooked = λ e z. z;
-    each_once = refl;
+    each_once = (once-none, once-none, once-none);
   });
   told = λ e i b w q z. absurd (both_ways _ (lacks-none b no_flags)
       (subst (λ (y : Flags × Flags). lacks b y.0 y.1 ≡ true)

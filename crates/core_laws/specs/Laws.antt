@@ -1,8 +1,8 @@
 -- The laws of a state, in three groups that can be used apart: edges and the sights of their ends,
 -- which speak of no node word; node words, views and told changes; tokens and the pending number.
-use Rattle.std.specs.Prelude.{◌≡◌, ◌≢◌, ℕ, ◌+◌, ◌<◌, ◌≤◌, ◌==◌, ◌||◌, ◌&&◌, not, nat_lt, Bool, true, false, is_some, List, [], ◌++◌, length, Option, Some, None, slice_index_or}
+use Rattle.std.specs.Prelude.{Bool, List, None, Option, Some, [], false, is_some, length, nat_lt, not, slice_index_or, true, ℕ, ◌&&◌, ◌++◌, ◌+◌, ◌<◌, ◌==◌, ◌||◌, ◌≡◌, ◌≢◌, ◌≤◌}
 use Rattle.std.specs.List.{sum_by}
-use Rattle.core_laws.specs.Views.{Flags, Wire, Sizes, PortState, NodeState, CoreState, node_of, port_of, has, once, edges_of, knows, flags_at, list_of_option, end_of, bit_of, names, is_set, is_over, counts, wire_ok, may_wire, reserved_edge_count}
+use Rattle.core_laws.specs.Views.{AreEdgesOnce, CoreState, Flags, NodeState, PortState, Sizes, Wire, bit_of, counts, edges_of, end_of, flags_at, has, is_over, is_set, knows, list_of_option, may_wire, names, node_of, port_of, reserved_edge_count, wire_ok}
 use Rattle.port_word.specs.Pictures.{no_flags, no_wire}
 use Rattle.core_laws.specs.Start.{fits}
 
@@ -69,7 +69,7 @@ pub record NodeStateHolds (nd : NodeState) : Type 0 where
   pub word : WordHolds nd.word nd.held
   pub owes : (e : ℕ) → has e nd.owes ≡ true → (nd.held && knows e nd.seen) ≡ true
   pub unlooked : (e : ℕ) → has e nd.unlooked ≡ true → knows e nd.seen ≡ true
-  pub each_once : (once (edges_of nd.seen) && (once nd.unlooked && once nd.owes)) ≡ true
+  pub each_once : AreEdgesOnce (edges_of nd.seen) × AreEdgesOnce nd.unlooked × AreEdgesOnce nd.owes
 
 -- an end that sees f lacks a change of the flags p that it is to be told
 abbrev pub lacks : Bool → Flags → Flags → Bool

@@ -2,6 +2,7 @@
 use Rattle.std.specs.Prelude.{ℕ, ◌+◌, ◌==◌, ◌||◌, ◌&&◌, not, cond, Bool, true, false, nat_lt, nat_le, List, [], ◌∷◌, ◌++◌, map, Option, Some, None, slice_index_or, slice_set}
 use Rattle.std.specs.Int.{bit_at}
 use Rattle.std.specs.List.{list_any, filter}
+use Rattle.chunk_data.specs.Places.{AreOnce}
 use Rattle.port_word.specs.Pictures.{no_flags}
 pub use Rattle.port_word.specs.declared.flags.Flags.{Flags}
 pub use Rattle.port_word.specs.declared.flags.Wire.{Wire}
@@ -45,9 +46,9 @@ list_of_option (Some x) = x ∷ []
 abbrev pub has : ℕ → List ℕ → Bool
 has e l = list_any (λ x. x == e) l
 
-abbrev pub once : List ℕ → Bool
-once [] = true
-once (x ∷ xs) = not (has x xs) && once xs
+-- each is named once
+unfoldable pub AreEdgesOnce : List ℕ → Type 0
+AreEdgesOnce l = AreOnce l
 
 abbrev pub adding : ℕ → List ℕ → List ℕ
 adding e l = cond (has e l) l (l ++ e ∷ [])

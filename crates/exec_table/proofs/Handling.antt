@@ -1,5 +1,5 @@
 -- What look, push, lift and pull do to the slots that are out with a seat.
-use Rattle.exec_table.proofs.Imports.{Flags, Wire, found_by, flags_word, Board, Bool, Chunk, Holds, List, NodeView, None, Option, Some, [], ap, arith, carried_after, cases_Bool, cond, deque_capacity, edge_count, end_of_view, get_or_past, cases_lt, eqb, false, fits_end, has, is_held_end, in_hand, is_empty_hand, is_end, is_full_hand, lane_at, length, node_view, not, once, port_at, slot_act, true, ℕ, ◌&&◌, ◌<◌, ◌∙◌, ◌∷◌, ◌≡◌, HandHolds, IsInHand, Identity, IsSeatOf, Slots, edges_out, holds_chunk, slot_in, slot_of, slots, view, NodeSeat, beq}
+use Rattle.exec_table.proofs.Imports.{AreEdgesOnce, Board, Bool, Chunk, Flags, HandHolds, Holds, Identity, IsInHand, IsSeatOf, List, NodeSeat, NodeView, None, Option, Slots, Some, Wire, [], ap, arith, beq, carried_after, cases_Bool, cases_lt, cond, deque_capacity, edge_count, edges_out, end_of_view, eqb, false, fits_end, flags_word, found_by, get_or_past, has, holds_chunk, in_hand, is_empty_hand, is_end, is_full_hand, is_held_end, lane_at, length, node_view, not, once-cons, port_at, slot_act, slot_in, slot_of, slots, subst, sym, true, view, ℕ, ◌&&◌, ◌<◌, ◌∙◌, ◌∷◌, ◌≡◌}
 use Rattle.exec_table.proofs.Hands.{has-slot, turn-of-end, view-turn}
 use Rattle.exec_table.proofs.Stepping.{holds-in, lane-full}
 use Rattle.exec_table.proofs.SlotLists.{few-below, first-slot}
@@ -20,10 +20,11 @@ held-there t s e v o h = ap (has e) o.places ∙ slot-there e (slots s) v h
 -- there is room for one more slot
 pub room-for : (t : Identity) (s : NodeSeat) (e : ℕ) → IsSeatOf t s → e < edge_count t.sizes
     → has e s.held.items ≡ false → length s.held.items < deque_capacity s.held
-room-for t s e o less none = let few = few-below (edge_count t.sizes) (e ∷ s.held.items) in
-    let past = get_or_past (view s).ends in let turns = o.hand.turns in let once = o.hand.once in
+room-for t s e o less none = let few = few-below (edge_count t.sizes) (e ∷ s.held.items)
+    (once-cons e s.held.items none (subst (λ l. AreEdgesOnce l) (sym o.places) o.hand.once)) in
+    let past = get_or_past (view s).ends in let turns = o.hand.turns in
     let p = o.places in let ends = o.ends in let room = o.room in
-    grind (arith, few, past, turns, once, p, ends, room, cases_lt, cases_Bool, none, less)
+    grind (arith, few, past, turns, p, ends, room, cases_lt, cases_Bool, none, less)
 
 -- the slots after a look are those that the data name, if they take e just where its turn has come
 pub look-places : (b : Board) (n e : ℕ) (l : Slots) (held : List ℕ) (t : Bool) → Holds b
@@ -53,9 +54,9 @@ pub at-front : (s : NodeSeat) (e : ℕ) (ns : List ℕ) (v : Option Chunk) → I
 at-front s e ns v h first is = grind (arith, first-slot)
 
 -- the same slots and view, in another order
-pub hand-turned : (x : NodeView) (l k : Slots) → once (edges_out k) ≡ true
+pub hand-turned : (x : NodeView) (l k : Slots) → AreEdgesOnce (edges_out k)
     → ((d : ℕ) → slot_in d k ≡ slot_in d l) → HandHolds x l → HandHolds x k
-hand-turned x l k one same h = grind (arith, has-slot, same, h.turns, h.lies)
+hand-turned x l k one same h = grind (arith, one, has-slot, same, h.turns, h.lies)
 
 -- a slot that has a chunk
 pub full-slot : (y : Option (Option Chunk)) → holds_chunk y ≡ true

@@ -1,5 +1,5 @@
 -- The slots that are out with a seat, after each step of its node.
-use Rattle.exec_table.proofs.Imports.{is_some, inr, Act, Close, Finish, Unwant, Want, may_act, Board, Bool, Chunk, CoreState, Holds, Lane, NodeView, None, Option, Pull, Push, Some, Step, Wire, [], acted, after, ap, arith, board_after, carried_after, cases_eq, cond, cond_both, end_of_view, eqb, false, fits_end, front, get_or-set_other, get_or-set_same, has, is_held_end, inl, is_at_hand, is_end, is_none, keeps, lane_at, learned, length, looked_at, may, names, no_lane, no_port, node_view, not, port_after, port_at, port_of, refl, rest, set, slot_act, sym, takes, true, turn_at, ℕ, ◌&&◌, ◌<◌, ◌∙◌, ◌∷◌, ◌≡◌, ◌≢◌, HandHolds, Slots, edges_out, slot_in, eqb-true, once, ◌⊎◌}
+use Rattle.exec_table.proofs.Imports.{Act, AreEdgesOnce, Board, Bool, Chunk, Close, CoreState, Finish, HandHolds, Holds, Lane, NodeView, None, Option, Pull, Push, Slots, Some, Step, Unwant, Want, Wire, [], acted, after, ap, arith, board_after, carried_after, cases_eq, cond, cond_both, edges_out, end_of_view, eqb, eqb-true, false, fits_end, front, get_or-set_other, get_or-set_same, has, inl, inr, is_at_hand, is_end, is_held_end, is_none, is_some, keeps, lane_at, learned, length, looked_at, may, may_act, names, no_lane, no_port, node_view, not, once-cons, once-head, once-tail, port_after, port_at, port_of, refl, rest, set, slot_act, slot_in, subst, sym, takes, true, turn_at, ℕ, ◌&&◌, ◌<◌, ◌∙◌, ◌∷◌, ◌≡◌, ◌≢◌, ◌⊎◌}
 use Rattle.exec_table.proofs.Readiness.{view-end}
 use Rattle.exec_table.proofs.Stepping.{act-parts, act-wire, holds-in}
 use Rattle.exec_table.proofs.Tied.{filled-hand, emptied-hand, look-nothing}
@@ -89,7 +89,11 @@ hand-more : (x y : NodeView) (slots : Slots) (d : ℕ) (v : Option Chunk)
     → (end_of_view x d).turn ≡ None
     → ((e : ℕ) → (end_of_view y e).turn ≡ cond (eqb e d) (Some v) (end_of_view x e).turn)
     → HandHolds x slots → HandHolds y ((d, v) ∷ slots)
-hand-more x y slots d v none same h = grind arith
+hand-more x y slots d v none same h = record {
+  once = once-cons d (edges_out slots) (h.turns d ∙ ap is_some none) h.once;
+  turns = λ e. grind (arith, h.turns e, same e);
+  lies = λ e w q. grind (arith, h.lies e w, same e, q);
+}
 
 pub has-slot : (e : ℕ) (l : Slots) → has e (edges_out l) ≡ is_some (slot_in e l)
 has-slot e [] = refl
@@ -104,10 +108,10 @@ no-slot e (y ∷ ys) h = grind (arith, no-slot e ys)
 hand-less : (x y : NodeView) (slots : Slots) (d : ℕ) (v : Option Chunk)
     → ((e : ℕ) → (end_of_view y e).turn ≡ cond (eqb e d) None (end_of_view x e).turn)
     → HandHolds x ((d, v) ∷ slots) → HandHolds y slots
-hand-less x y slots d v same h = record {
-  once = grind (arith, h.once);
-  turns = λ e. grind (arith, h.once, h.turns e, same e);
-  lies = λ e w q. grind (arith, h.once, h.lies e w, same e, q, no-slot d slots);
+hand-less x y slots d v same h = let first = once-head d (edges_out slots) h.once in record {
+  once = once-tail d (edges_out slots) h.once;
+  turns = λ e. grind (arith, first, h.turns e, same e);
+  lies = λ e w q. grind (arith, first, h.lies e w, same e, q, no-slot d slots);
 }
 
 -- ---- after a step
@@ -145,9 +149,11 @@ taken-slot d e c v s t u is home q = elim (cases_eq e d) [
 ]
 
 -- the slots but the first
-pub rest-slots : (l ys : Slots) (e : ℕ) (u : Option Chunk) → once (edges_out l) ≡ true
+pub rest-slots : (l ys : Slots) (e : ℕ) (u : Option Chunk) → AreEdgesOnce (edges_out l)
     → l ≡ (e, u) ∷ ys → (d : ℕ) (v : Option Chunk) → slot_in d ys ≡ Some v → slot_in d l ≡ Some v
-rest-slots l ys e u one is d v q = grind (arith, no-slot e ys)
+rest-slots l ys e u one is d v q =
+    let first = once-head e (edges_out ys) (subst (λ l. AreEdgesOnce (edges_out l)) is one) in
+    grind (arith, first, no-slot e ys)
 
 module _ (b : Board) (n : ℕ) (h : Holds b) (slots : Slots) (hand : HandHolds (node_view b n) slots)
   where

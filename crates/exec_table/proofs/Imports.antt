@@ -2,9 +2,9 @@
 pub use Rattle.core_laws.specs.Laws.{Content, EdgeHolds, Laws}
 pub use Rattle.core_laws.specs.Start.{fits, start, start_node}
 pub use Rattle.core_laws.specs.Steps.{StepAnswer, acted, acting_end, after, allows, answer, bit_at_end, born, changed, chunks_after, is_held_end, is_updated, learned, learning, left, looked, may, may_act, node_after, peer_in, port_after, spent, taken, telling, tells, with_bit, wiring, updated, is_idle, marked_by, marked_peer, seen, wired}
-pub use Rattle.core_laws.specs.Views.{adding, edges_of, end_of, flags_at, has, is_end, is_set, is_unborn, knows, names, no_node, no_port, node_at, node_of, once, port_at, port_of, put_node, put_port, seeing, wire_ok, without}
+pub use Rattle.core_laws.specs.Views.{adding, edges_of, end_of, flags_at, has, is_end, is_set, is_unborn, knows, names, no_node, no_port, node_at, node_of, port_at, port_of, put_node, put_port, seeing, wire_ok, without}
 pub use Rattle.port_word.specs.Pictures.{no_flags, no_wire}
-pub use Rattle.exec_table.specs.CoreNames.{Act, Chunk, Close, CoreState, Finish, Flags, NodeState, PortState, Pull, Push, Sizes, Step, Unwant, Want, Wire}
+pub use Rattle.exec_table.specs.CoreNames.{Act, AreEdgesOnce, Chunk, Close, CoreState, Finish, Flags, NodeState, PortState, Pull, Push, Sizes, Step, Unwant, Want, Wire}
 pub use Rattle.exec_table.specs.Words.{edge_count, first_word, flags_word, found_by, node_place, node_words, place, port_place, port_words, wire_of, wire_place, wire_word, wire_words, words_of, wire_in}
 pub use Rattle.exec_table.specs.Boards.{Begun, Board, Born, EdgeEnd, NodeView, Over, Stage, View, Holds, Lane, LaneHolds, StageHolds, board_after, end_at, end_for, end_view, fits_end, home_of, lane_at, lanes_after, looked_at, no_end, no_lane, node_view, chunk_numbers, pulled_from, pushed_to, stage_at, turn_at}
 pub use Rattle.exec_table.specs.Rule.{Distinct, IsSeen, Sat, Shown, ViewFits, aiming, finding, first_view, no_view, one, start_board, start_stage, unstopped}
@@ -24,7 +24,7 @@ pub use Rattle.atomic_table.specs.Table.{Allows, Joins, Seen, Splits, State, Val
 pub use Rattle.atomic_table.proofs.Lists.{at_index, at_set, at_snoc, at_map, drop_at}
 pub use Rattle.core_laws.proofs.Kept.{laws-kept, marks-of, pending-most, sizes-kept, some-pending}
 pub use Rattle.core_laws.proofs.Bits.{EndOf, an-end, end-of, or-more, or-other, flip-lone}
-pub use Rattle.core_laws.proofs.Lists.{edges-seeing, has-filter, has-last, once-filter, once-last}
+pub use Rattle.core_laws.proofs.Lists.{edges-seeing, has-filter, has-last, once-cons, once-filter, once-head, once-last, once-tail}
 pub use Rattle.core_laws.proofs.Starts.{start-laws, learned-start, ports-length}
 pub use Rattle.std.specs.VecDeque.{deque_capacity}
 pub use Rattle.atomic_table.specs.declared.shared.Seat.{Seat}

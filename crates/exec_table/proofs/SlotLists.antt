@@ -1,5 +1,5 @@
 -- Lists of slots as they turn, and how long a list without repetition can be.
-use Rattle.exec_table.proofs.Imports.{Chunk, List, Option, Some, [], and_parts, ap, append_assoc, arith, cond, drop, drop_more, eqb, false, filter, get_or, has, has-filter, length, map-append, not, once, once-filter, once-last, refl, suc, take, take_more, true, turned, zero, ℕ, ◌++◌, ◌+◌, ◌<◌, ◌∙◌, ◌∷◌, ◌≡◌, ◌≤◌, cases_eq, Slots, edges_out, slot_in}
+use Rattle.exec_table.proofs.Imports.{AreEdgesOnce, once-tail, Chunk, List, Option, Slots, Some, [], ap, append_assoc, arith, cases_eq, cond, drop, drop_more, edges_out, eqb, false, filter, get_or, has, has-filter, length, map-append, not, once-filter, once-head, once-last, refl, slot_in, suc, take, take_more, true, turned, zero, ℕ, ◌++◌, ◌+◌, ◌<◌, ◌∙◌, ◌∷◌, ◌≡◌, ◌≤◌}
 
 -- ---- how long a list is
 
@@ -8,13 +8,15 @@ without-none : (n : ℕ) (l : List ℕ) → has n l ≡ false
 without-none n [] h = refl
 without-none n (x ∷ xs) h = grind (arith, without-none n xs)
 
-without-one : (n : ℕ) (l : List ℕ) → once l ≡ true
+without-one : (n : ℕ) (l : List ℕ) → AreEdgesOnce l
     → length l ≤ length (filter (λ d. not (eqb d n)) l) + 1
 without-one n [] h = omega arith
-without-one n (x ∷ xs) h = grind (arith, cases_eq, without-none, without-one n xs)
+without-one n (x ∷ xs) h = let first = once-head x xs h in
+    let left = without-one n xs (once-tail x xs h) in
+    grind (arith, cases_eq, without-none, first, left)
 
 -- numbers below n, each once, are at most n
-pub few-below : (n : ℕ) (l : List ℕ) → once l ≡ true → ((e : ℕ) → has e l ≡ true → e < n)
+pub few-below : (n : ℕ) (l : List ℕ) → AreEdgesOnce l → ((e : ℕ) → has e l ≡ true → e < n)
     → length l ≤ n
 few-below zero [] h less = omega arith
 few-below zero (x ∷ xs) h less = let z = less x (grind arith) in absurd (omega arith)
@@ -30,18 +32,18 @@ pub turned-edges : (l : Slots) (n : ℕ) (ns : List ℕ) → edges_out l ≡ n �
 turned-edges [] n ns h = absurd (let z : [] ≡ n ∷ ns = h in cc)
 turned-edges (y ∷ ys) n ns h = grind (arith, map-append)
 
-pub turned-once : (n : ℕ) (ns : List ℕ) → once (n ∷ ns) ≡ true → once (ns ++ n ∷ []) ≡ true
-turned-once n ns h = once-last n ns (grind arith) (and_parts (not (has n ns)) _ h).1
+pub turned-once : (n : ℕ) (ns : List ℕ) → AreEdgesOnce (n ∷ ns) → AreEdgesOnce (ns ++ n ∷ [])
+turned-once n ns h = once-last n ns (once-head n ns h) (once-tail n ns h)
 
 last-slot : (d : ℕ) (y : ℕ × Option Chunk) (ys : Slots) → has y.0 (edges_out ys) ≡ false
     → slot_in d (ys ++ y ∷ []) ≡ cond (eqb y.0 d) (Some y.1) (slot_in d ys)
 last-slot d y [] h = refl
 last-slot d y (z ∷ zs) h = grind (arith, last-slot d y zs)
 
-pub turned-slots : (l : Slots) (d : ℕ) → once (edges_out l) ≡ true
+pub turned-slots : (l : Slots) (d : ℕ) → AreEdgesOnce (edges_out l)
     → slot_in d (turned l) ≡ slot_in d l
 turned-slots [] d h = refl
-turned-slots (y ∷ ys) d h = last-slot d y ys (grind arith)
+turned-slots (y ∷ ys) d h = last-slot d y ys (once-head y.0 (edges_out ys) h)
 
 -- ---- a list rotated until a number stands first
 

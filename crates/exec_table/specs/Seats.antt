@@ -4,7 +4,7 @@ use Rattle.std.specs.VecDeque.{deque_capacity}
 use Rattle.atomic_table.specs.Seated.{TableId}
 use Rattle.core_laws.specs.Steps as core
 use Rattle.core_laws.specs.declared.types.Step.TheVariants as step
-use Rattle.exec_table.specs.CoreNames.{Sizes, Step, Wire, has, knows, once, is_set, StepAnswer, may, answer, Chunk}
+use Rattle.exec_table.specs.CoreNames.{AreEdgesOnce, Chunk, Sizes, Step, StepAnswer, Wire, answer, has, is_set, knows, may}
 use Rattle.exec_table.specs.Words.{edge_count, found_by}
 use Rattle.exec_table.specs.Boards.{Board, Holds, NodeView, node_view, board_after}
 pub use Rattle.exec_table.specs.Ready.{end_of_view, is_full_hand as holds_chunk}
@@ -38,7 +38,7 @@ slot_in e (y ∷ ys) = cond (y.0 == e) (Some y.1) (slot_in e ys)
 -- the slots that are out with a seat are those whose turn it has; each has what lay in the port, or
 -- was emptied
 pub record HandHolds (x : NodeView) (slots : Slots) : Type 0 where
-  pub once : once (edges_out slots) ≡ true
+  pub once : AreEdgesOnce (edges_out slots)
   pub turns : (e : ℕ) → has e (edges_out slots) ≡ is_some (end_of_view x e).turn
   pub lies : (e : ℕ) (v : Option Chunk) → slot_in e slots ≡ Some v
       → (v ≡ None) ⊎ ((end_of_view x e).turn ≡ Some v)
@@ -74,7 +74,7 @@ identity_of t = record { id = t.table.shared.table_id; sizes = sizes_in t }
 -- the data of the seat name the slots that are out with it, each once
 pub record IsInHand (s : NodeSeat) : Type 0 where
   pub places : s.held.items ≡ edges_out (slots s)
-  pub once : once s.held.items ≡ true
+  pub once : AreEdgesOnce s.held.items
 
 -- the seat of a node of the table
 pub record IsSeatOf (t : Identity) (s : NodeSeat) : Type 0 where

@@ -1,4 +1,4 @@
-use Rattle.exec_table.proofs.Imports.{HandHolds, None, Some, ap, edges_out, once, rest, subst, sym, view, ◌∙◌, ◌∷◌}
+use Rattle.exec_table.proofs.Imports.{AreEdgesOnce, HandHolds, None, Some, ap, edges_out, rest, subst, sym, view, ◌∙◌, ◌∷◌}
 use Rattle.exec_table.proofs.Handling.{at-front, full-slot, hand-lifted, hand-turned}
 use Rattle.exec_table.proofs.Seating.{seat-other}
 use Rattle.exec_table.proofs.rule.ExecTable.lift.Goals as goal
@@ -20,5 +20,5 @@ returns-clause-seat c = let b = c.bring_to_front.ensures in let x = full-slot _ 
     (ap (λ m. m.0.nodes) c.exchange.ensures.3 ∙ ap (λ v. v.nodes) b.same.1) b.same.2
     (subst (HandHolds (view old)) (sym now) (hand-lifted (view old) e (Some x.0) f.0
     (subst (HandHolds (view old)) f.1 (hand-turned (view old) _ _
-    (sym (ap once b.hand.places) ∙ b.hand.once) b.slots o.hand))))
+    (subst (λ l. AreEdgesOnce l) b.hand.places b.hand.once) b.slots o.hand))))
     (b.hand.places ∙ (ap edges_out f.1 ∙ sym (ap edges_out now))) b.same.3

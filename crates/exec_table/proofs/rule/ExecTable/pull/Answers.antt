@@ -1,4 +1,4 @@
-use Rattle.exec_table.proofs.Imports.{HandHolds, None, ap, drop, edges_out, inl, once, refl, rest, rules, slot_in, slots, subst, sym, true, view, ◌∙◌}
+use Rattle.exec_table.proofs.Imports.{AreEdgesOnce, HandHolds, None, ap, drop, edges_out, inl, refl, rest, rules, slot_in, slots, subst, sym, true, view, ◌∙◌}
 use Rattle.exec_table.specs.Plays.{first_node}
 use Rattle.exec_table.proofs.Handling.{at-front, empty-front, hand-turned, held-there}
 use Rattle.exec_table.proofs.Hands.{hand-after, rest-slots}
@@ -22,7 +22,7 @@ pub returns : goal.returns
 returns c = let s = c.requires.seat in let old = c.args.seat.now in
     let b = c.bring_to_front.ensures in let mid = c.bring_to_front.new.self in let e = c.args.e in
     let f = at-front mid e _ _ b.hand b.first.1 (b.slots e ∙ c.requires.slot) in
-    let one = sym (ap once b.hand.places) ∙ b.hand.once in
+    let one = subst (λ l. AreEdgesOnce l) b.hand.places b.hand.once in
     let d = edge-did mid.seat.me true (λ _. step.Pull) e s (ap first_node b.same.1)
     c.port_place-place.ensures c.fetch_and.ensures.2 in let left = d.hand ∙ ap rest f.1 in
     makes {l = slots mid} s d (subst (HandHolds _) (sym d.hand)

@@ -1,4 +1,4 @@
-use Rattle.exec_table.proofs.Imports.{HandHolds, None, ap, board_after, drop, edges_out, end_of_view, front, inl, length, once, push_of, refl, rest, rules, slot_in, slots, subst, sym, true, view, ◌∙◌, ◌∷◌}
+use Rattle.exec_table.proofs.Imports.{AreEdgesOnce, HandHolds, None, ap, board_after, drop, edges_out, end_of_view, front, inl, length, push_of, refl, rest, rules, slot_in, slots, subst, sym, true, view, ◌∙◌, ◌∷◌}
 use Rattle.exec_table.specs.Plays.{first_node}
 use Rattle.exec_table.proofs.Handling.{at-front, full-front, hand-turned, held-there}
 use Rattle.exec_table.proofs.Hands.{hand-pushed, rest-slots}
@@ -25,7 +25,7 @@ returns c = let s = c.requires.seat in let old = c.args.seat.now in
     let b = c.bring_to_front.ensures in let mid = c.bring_to_front.new.self in
     let e = c.args.e in let had = c.exchange.ensures.3 in let l = c.exchange.new.seat.me.1 in
     let f = at-front mid e _ _ b.hand b.first.1 (b.slots e ∙ c.requires.slot) in
-    let one = sym (ap once b.hand.places) ∙ b.hand.once in
+    let one = subst (λ l. AreEdgesOnce l) b.hand.places b.hand.once in
     let d = edge-did c.exchange.new.seat.me true
     (λ x e. step.Push e (length (end_of_view x e).chunks)) e s
     (ap (λ m. first_node m.0) had ∙ ap first_node b.same.1) c.port_place-place.ensures
