@@ -11,7 +11,7 @@ pub use Rattle.csv_rows.specs.RowsLeft.{RowsLeft, TakesRows, at_end}
 pub use Rattle.outside_io.specs.Readers.{IsAfter, Position, ReaderState, ToldFiles}
 pub use Rattle.proc_api.specs.Forms.{spec_form}
 pub use Rattle.proc_api.specs.kinds.List.{listed_edges, listed_parts}
-pub use Rattle.proc_api.specs.Names.{ArePartBytes, AreResized, Expands, IsLongFile, KnowsList, OwnState, Schedules, StandsBehind, WakeComes, HasMade, IsReadOut, KeepsMade, own_of, reading_of, spec_growth}
+pub use Rattle.proc_api.specs.Names.{AreOpen, ArePartBytes, AreResized, Expands, HadPorts, IsLongFile, KnowsList, OwnState, PortFlags, ReadsList, ReadsPart, Schedules, StandsBehind, WakeComes, HasMade, IsReadOut, KeepsMade, kept_ports, own_of, reading_of, spec_growth}
 pub use Rattle.proc_api.specs.KindContract.{is_me}
 pub use Rattle.proc_api.specs.declared.growth.Edge.{Edge}
 pub use Rattle.proc_api.specs.declared.growth.GrowNode.{GrowNode}
@@ -19,8 +19,8 @@ pub use Rattle.proc_api.specs.declared.status.Status.{Status}
 pub use Rattle.proc_shell.proofs.BoxLaws.{fails, loads, none-mapped, works, wrong-kind}
 pub use Rattle.proc_shell.proofs.Imports.{is_some, ArePortsOf, Begins, Bool, BoxPicture, ColumnType, Err, Fails, FaultHolds, FaultInCall, FaultIsDue, Faults, IfErr, IfSome, IsKernelOf, IsSourceKind, IsWorkOf, KeepsRows, KeepsSame, Kind, List, Lists, Makes, None, Notes, NotesEnd, OfPart, Offers, Ok, Option, PartSpec, Picture, Prepared, ReaderView, Reads, Result, Row, RowCount, Some, Spec, Table, Takes, Wake, WorkFault, [], ap, append-nil, append_assoc, arith, chunk_rows, common_steps, cond, differs_false, differs_true, false, file_of, grown_inputs, growth_in, held_made, held_unworked, idle_own, in_count, inl, inr, kind_of, length, length-append, option_map, out_count, shell_state, loaded_seen, raised, refl, source_of, subst, sym, true, with_chunk, ℕ, ◌++◌, ◌+◌, ◌<◌, ◌∙◌, ◌∷◌, ◌≡◌, ◌≤◌, ◌⊎◌}
 pub use Rattle.proc_shell.proofs.KeepLaws.{had-same}
-pub use Rattle.proc_shell.proofs.Lists.{grown-keeps}
-pub use Rattle.proc_shell.proofs.Resizing.{begins-resized, resized-takes}
+pub use Rattle.proc_shell.proofs.PortMoves.{never-true}
+pub use Rattle.proc_shell.proofs.Resizing.{resized-nothing, resized-takes}
 pub use Rattle.proc_shell.proofs.Through.{makes-nothing}
 pub use Rattle.proc_shell.proofs.TurnLaws.{leaves-same}
 pub use Rattle.proc_shell.specs.Kernels.{IsValid, OfferComes}

@@ -1,5 +1,5 @@
 -- What the kernel of a source offers, works and makes, be it of a part or of a list.
-use Rattle.csv_procs.proofs.Imports.{ArePortsOf, AreResized, Begins, Bool, ColumnType, Fetching, FileState, GivesLeft, HasFitLeft, IfSome, IsKernelOf, IsNextOfList, IsNextOfSource, IsSome, IsSourceKind, IsSpecOf, IsValid, List, ListedPaths, Makes, None, Offer, OfferComes, Offers, Option, PartSpec, Paths, Picture, Reads, Row, Rows, RowsLeft, Shut, Some, Spec, Table, Takes, TakesRows, [], ap, append-nil, append_assoc, arith, at_end, bad_place, begins-resized, chunk_rows, cond, csv_kind, csv_spec, eq-eqb, eqb-true, false, good_rows, grown_inputs, growth_in, idle_own, in_count, inl, inputs_in, inr, kind_of, leaves-same, left_rows, length, length-append, list_growth, lists_in, makes-nothing, max, nil_from_length, open_in, out_count, refl, resized-takes, row_then, rows_if_some, sourcing, spelled_row, stage_in, subst, sym, true, types_or, with_chunk, ℕ, ◌++◌, ◌+◌, ◌<◌, ◌∙◌, ◌∷◌, ◌≡◌, ◌⊎◌}
+use Rattle.csv_procs.proofs.Imports.{ArePortsOf, AreResized, Begins, Bool, ColumnType, Fetching, FileState, GivesLeft, HasFitLeft, IfSome, IsKernelOf, IsNextOfList, IsNextOfSource, IsSome, IsSourceKind, IsSpecOf, IsValid, List, ListedPaths, Makes, None, Offer, OfferComes, Offers, Option, PartSpec, Paths, Picture, Reads, Row, Rows, RowsLeft, Shut, Some, Spec, Table, Takes, TakesRows, [], ap, append-nil, append_assoc, arith, at_end, bad_place, chunk_rows, cond, csv_kind, csv_spec, eq-eqb, eqb-true, false, good_rows, grown_inputs, growth_in, idle_own, in_count, inl, inputs_in, inr, kind_of, leaves-same, left_rows, length, length-append, list_growth, lists_in, makes-nothing, max, nil_from_length, open_in, out_count, refl, resized-nothing, resized-takes, row_then, rows_if_some, sourcing, spelled_row, stage_in, subst, sym, true, types_or, with_chunk, ℕ, ◌++◌, ◌+◌, ◌<◌, ◌∙◌, ◌∷◌, ◌≡◌, ◌⊎◌}
 use Rattle.query_model.specs.declared.processor_spec.Spec.TheVariants as spec
 use Rattle.proc_shell.specs.declared.kernel.Offer.TheVariants as offer
 use Rattle.csv_procs.proofs.GrowthLaws.{edges-count}
@@ -57,7 +57,7 @@ source-begins true s list k (inr e) = record {
       read = λ e. absurd (cc);
       grown = tt;
     };
-    resized = ((begins-resized spec.Resize refl).nothing None).1;
+    resized = resized-nothing;
   });
   unended = λ i n. n;
 }

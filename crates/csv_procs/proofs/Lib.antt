@@ -1,6 +1,7 @@
 pub mod Imports
 mod ListTexts
 mod GrowthLaws
+mod Lists
 pub mod KernelLaws
 mod HeldFiles
 mod FeedLaws

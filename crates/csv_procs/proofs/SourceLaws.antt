@@ -1,9 +1,10 @@
 -- The clauses of a source's calls.
-use Rattle.csv_procs.proofs.Imports.{ArePartBytes, AreResized, Bool, BoxPicture, Err, Expands, Fails, FaultComes, FaultHolds, FaultInCall, FaultIsDue, Faults, Fetching, FileState, Growth, Held, IfErr, IfOk, IfSome, IsFile, IsLongFile, IsLongTold, IsRead, IsWholeFile, IsWorkOf, KeepsRows, KeepsSame, Kind, KnowsList, List, ListedPaths, Lists, MatchesReader, None, Notes, NotesEnd, OfPart, Ok, Option, OwnState, PartMatchesReader, PartSpec, Paths, Position, Prepared, ReaderState, ReaderView, Result, RowCount, Rows, Schedules, Shut, Some, StandsBehind, Status, StaysAt, StepComes, StepsTo, ToldFiles, Wake, WakeComes, WorkFault, ap, arith, bad_line_in, bad_place, bad_place_in, chunk_rows, cond, csv_kind, cases_Bool, csv_spec, false, file_of, files_of, good_rows, grown-keeps, growth_form, had-same, held_made, held_unworked, inl, inr, is_fetched, is_grown, is_opened, kept_input, kept_inputs, kept_output, kept_outputs, length, list_growth, list_uses, lists_in, loaded_seen, option_map, paths_of, refl, rows_if_some, shell_state, source_of, source_unmade, source_uses, sourcing, spec_growth, stage_in, subst, sym, true, with_answer, ℕ, ◌++◌, ◌+◌, ◌<◌, ◌∙◌, ◌≡◌, HasMade, IsReadOut, KeepsMade, own_of, reading_of}
+use Rattle.csv_procs.proofs.Imports.{ArePartBytes, AreResized, Bool, BoxPicture, Err, Expands, Fails, FaultComes, FaultHolds, FaultInCall, FaultIsDue, Faults, Fetching, FileState, Growth, Held, IfErr, IfOk, IfSome, IsFile, IsLongFile, IsLongTold, IsRead, IsWholeFile, IsWorkOf, KeepsRows, KeepsSame, Kind, KnowsList, List, ListedPaths, Lists, MatchesReader, None, Notes, NotesEnd, OfPart, Ok, Option, OwnState, PartMatchesReader, PartSpec, Paths, Position, Prepared, ReaderState, ReaderView, ReadsList, ReadsPart, Result, RowCount, Rows, Schedules, Shut, Some, StandsBehind, Status, StaysAt, StepComes, StepsTo, ToldFiles, Wake, WakeComes, WorkFault, ap, arith, bad_line_in, bad_place, bad_place_in, chunk_rows, cond, csv_kind, cases_Bool, csv_spec, false, file_of, files_of, good_rows, growth_form, had-same, held_made, held_unworked, inl, inr, is_fetched, is_grown, is_opened, kept_input, kept_inputs, kept_output, kept_outputs, length, list_growth, list_uses, lists_in, loaded_seen, option_map, paths_of, refl, rows_if_some, shell_state, source_of, source_unmade, source_uses, sourcing, spec_growth, stage_in, subst, sym, true, with_answer, ℕ, ◌++◌, ◌+◌, ◌<◌, ◌∙◌, ◌≡◌, HasMade, IsReadOut, KeepsMade, own_of, reading_of}
 use Rattle.csv_procs.proofs.HeldFiles.{told_as_pairs}
 use Rattle.query_model.specs.declared.processor_spec.Spec.TheVariants as spec
 use Rattle.proc_api.specs.declared.status.Wake.TheVariants as wake
 use Rattle.proc_api.specs.declared.status.WorkFault.TheVariants as fault
+use Rattle.csv_procs.proofs.Lists.{grown-keeps}
 
 -- ---- what ties a source to its reader
 
@@ -28,18 +29,18 @@ pub fault-told : (told : ToldFiles) (position : Position) (f pd : ℕ) (k : Kind
     (loaded_seen k (reads told f pd) count (shell_state (sourcing lists part' s) h n))
 fault-told told position f pd k count lists part' s h n of t fault.Memory y = tt
 fault-told None position f pd k count lists part' s h n of t (fault.Bad place) y =
-    (sym of ∙ y.0, tt)
+    (subst ReadsPart of y.0, tt)
 fault-told None position f pd k count lists part' s h n of t (fault.BadList line) y =
-    (sym of ∙ y.0, tt)
+    (subst ReadsList of y.0, tt)
 fault-told (Some all) position f pd k count false part' (Rows r) h n of t (fault.Bad place) y =
     let read = t.read refl in (
-      sym of ∙ y.0,
+      subst ReadsPart of y.0,
       ap (bad_place_in part'.header part'.types) (told_as_pairs all part'.path ∙ read.are)
           ∙ sym read.known ∙ y.1,
     )
 fault-told (Some all) position f pd k count true part' (Paths l) h n of t (fault.BadList line) y =
     let read = t.read refl in (
-      sym of ∙ y.0,
+      subst ReadsList of y.0,
       ap bad_line_in (told_as_pairs all part'.path ∙ read.are) ∙ sym read.known.1 ∙ y.1,
     )
 fault-told (Some all) position f pd k count false part' s h n of t (fault.Bad place) y =

@@ -325,9 +325,10 @@ module _ {count : ℕ} {wires : List Wire} {cells : ℕ → CellPicture} {edges 
       | inr past ↦ past
       | inl less ↦
           let w = input-of-count r.graph.ranks wires r.graph.reserves r.graph.graph n i less in
-          let same = g.graph.so_far.inputs_once w.edge e (longer w.edge w.in_range) h.in_range
-          (rw (kept w.edge w.in_range, w.to) (sym h.at_port.0))
-          (rw (kept w.edge w.in_range, w.input_is) (sym h.at_port.1)) in
+          let same = g.graph.so_far.inputs_once w.edge e (longer w.edge w.in_range) h.in_range (
+            rw (kept w.edge w.in_range, w.to) (sym h.at_port.0),
+            rw (kept w.edge w.in_range, w.input_is) (sym h.at_port.1),
+          ) in
           let below_wires = w.in_range in
           absurd (omega (arith, same, le, below_wires))
     ]
@@ -335,9 +336,10 @@ module _ {count : ℕ} {wires : List Wire} {cells : ℕ → CellPicture} {edges 
       | inr past ↦ past
       | inl less ↦
           let w = output-of-count r.graph.ranks wires r.graph.reserves r.graph.graph n o less in
-          let same = g.graph.so_far.outputs_once w.edge e (longer w.edge w.in_range) h.in_range
-          (rw (kept w.edge w.in_range, w.from) (sym h.at_port.0))
-          (rw (kept w.edge w.in_range, w.out_is) (sym h.at_port.1)) in
+          let same = g.graph.so_far.outputs_once w.edge e (longer w.edge w.in_range) h.in_range (
+            rw (kept w.edge w.in_range, w.from) (sym h.at_port.0),
+            rw (kept w.edge w.in_range, w.out_is) (sym h.at_port.1),
+          ) in
           let below_wires = w.in_range in
           absurd (omega (arith, same, le, below_wires))
     ]

@@ -2,7 +2,7 @@
 pub use Rattle.chunk_data.proofs.Places.{AreOnce-append, AreOnce-head, AreOnce-tail, count_by-append, count_by-cons, count_by-none}
 pub use Rattle.chunk_data.specs.Places.{AreOnce}
 pub use Rattle.exec_laws.specs.Births.{growth_list}
-pub use Rattle.proc_api.specs.KindRows.{all_kinds}
+pub use Rattle.proc_api.specs.KindRows.{all_kinds, grown_kind}
 pub use Rattle.exec_laws.specs.Growths.{end_node, end_rank, form_kind, has_gap, has_large_port, has_wrong_end, is_blank_of, is_named, is_out_of_order, is_port_taken, lacks_blank}
 pub use Rattle.exec_laws.specs.Names.{Acts, ActsCell, AreAllBorn, AreBirths, AreEdgesOf, AsksToGrow, Birth, BoxHolds, CellPicture, ContradictsStatus, EdgeState, EdgeDone, EdgeEndHolds, EndSettled, GivenBack, GivesBox, GrewCell, HasEdge, HasFinished, HasForm, HoldsGraph, InputHolds, IsAtRest, IsBirth, IsBorn, IsEnd, IsFault, IsNewNode, IsNothingDue, IsNodeOver, IsPort, IsStuck, KeepsBox, KeepsFault, ViewKnows, LawfulDone, Left, MarkHolds, MarkTells, MayRest, NodeHolds, NodeMark, NodeStatus, OutputHolds, QuietBut, Running, StaysBox, StaysOrActs, StuckNode, SupportsStatus, TakeBlanks, Touches, NodeTurns, ViewHolds, WasLoaded, action_port, after_action, all_places, births_of, blanks_of, born_wires, boxes_of, cell_at, chunks_of, edge_at, form_at, grown_ranks, grown_wires, growth_flaw, growths_of, is_finished, is_place, is_resting, is_told, is_unfinished, is_waiting, kept_flags, kept_growths, last_answer, last_status, lifted, new_edge, new_mark, new_wire, new_wires, no_cell, number_at, peer, places_for, port_edge, reserve_of, set_ranks, state_after, stuck_from, told, told_if, told_state, unloaded, wired_by}
 pub use Rattle.exec_laws.specs.Prelude.{Action, Answer, ArePortsOf, Blank, Close, DueCall, Finish, GrowthForm, HasPort, Input, InputAllows, IsAllFinished, IsBlank, IsFresh, IsRunning, MayGrow, MaySchedule, MayWork, Me, New, NewEdge, Output, OutputAllows, Port, Prepared, ProducerKnows, Pull, Push, Reserve, Rests, Scheduled, SpecForm, Status, StatusComes, StatusHolds, StaysFit, Unwant, WaitsForData, WaitsForRoom, Want, Who, WorkFault, after_grow, chunk_after, chunk_step, input_after, input_allows, input_step, is_in_finished, is_me, output_after, output_allows, output_step, port_flags, same_kind}

@@ -1,13 +1,12 @@
 -- The growth of a list of parts takes the first blank sources of its reserve, one for each path,
 -- and has no flaw where a source and an edge are left for each.
-use Rattle.exec_laws.proofs.Imports.{All-from_get_or, Birth, Blank, Bool, BoxPicture, GrowthForm, IsGraph, Kind, Left, List, NewEdge, None, PartSpec, Wire, [], all_kinds, ap, arith, blanks_of, box_at, cases_lt, cond, false, find, form_kind, get_or, get_or-append_right, get_or-map-range_with_len, get_or-range_with_len, get_or_append_left, growth_flaw, has_gap, has_input, has_large_port, has_output, has_wrong_end, inl, inr, is-gapless, is_blank_of, is_gapless, is_out_of_order, is_place, is_port_taken, lacks_blank, le-ltb, length, length-append, output_count, length-map-range_with_len, list_any, list_any-append, list_any_none, list_growth, listed_edge, listed_edges, listed_parts, lt-ltb, map, map-range_with_len_more, nat_lt, ne_eqb, new_wires, no_wire, output-below-count, output-of-count, places_for, range_with_len, rank_at, refl, same_kind, subst, suc, sum_by-cons, sym, true, wire-input, wire-output, wire_at, zero, ℕ, ◌&&◌, ◌++◌, ◌+◌, ◌-◌, ◌<◌, ◌==◌, ◌∙◌, ◌∷◌, ◌≡◌, ◌≢◌, ◌≤◌, ◌⊎◌}
+use Rattle.exec_laws.proofs.Imports.{All-from_get_or, Birth, Blank, Bool, BoxPicture, GrowthForm, IsGraph, Kind, Left, List, NewEdge, None, PartSpec, Wire, [], all_kinds, ap, arith, blanks_of, box_at, cases_lt, cond, false, find, form_kind, get_or, get_or-append_right, get_or-map-range_with_len, get_or-range_with_len, get_or_append_left, grown_kind, growth_flaw, has_gap, has_input, has_large_port, has_output, has_wrong_end, inl, inr, is-gapless, is_blank_of, is_gapless, is_out_of_order, is_place, is_port_taken, lacks_blank, le-ltb, length, length-append, output_count, length-map-range_with_len, list_any, list_any-append, list_any_none, list_growth, listed_edge, listed_edges, listed_parts, lt-ltb, map, map-range_with_len_more, nat_lt, ne_eqb, new_wires, no_wire, output-below-count, output-of-count, places_for, range_with_len, rank_at, refl, same_kind, subst, suc, sum_by-cons, sym, true, wire-input, wire-output, wire_at, zero, ℕ, ◌&&◌, ◌++◌, ◌+◌, ◌-◌, ◌<◌, ◌==◌, ◌∙◌, ◌∷◌, ◌≡◌, ◌≢◌, ◌≤◌, ◌⊎◌}
 use Rattle.std.specs.List.{count_by}
-use Rattle.query_model.specs.declared.processor_spec.Kind.TheVariants as kinds
 
 -- ---- blank sources, and the places that a list takes
 
 abbrev pub source : ℕ → Blank
-source n = record { node = n; kind = kinds.Csv }
+source n = record { node = n; kind = grown_kind }
 
 -- the blank sources of so many nodes
 abbrev pub sources : (first count : ℕ) → List Blank
@@ -16,7 +15,7 @@ sources first count = map source (range_with_len first count)
 -- where each node of a reserve is a blank source that no birth took, all are left
 pub sources-left : (boxes : List BoxPicture) (births : List Birth) (first count : ℕ)
     → ((k : ℕ) → k < count → (is_place births (first + k) ≡ false)
-    × (((box_at boxes (first + k)).spec ≡ None) × ((box_at boxes (first + k)).kind ≡ kinds.Csv)))
+    × (((box_at boxes (first + k)).spec ≡ None) × ((box_at boxes (first + k)).kind ≡ grown_kind)))
     → blanks_of boxes births first count ≡ sources first count
 sources-left boxes births first zero h = refl
 sources-left boxes births first (suc k) h =
@@ -89,7 +88,7 @@ few-wanted list i (path ∷ paths) first zero k le = absurd (omega (arith, le))
 few-wanted list i (path ∷ paths) first (suc count) k le =
     omega (
       arith,
-      sum_by-cons (λ (j : Kind). cond (same_kind j k) 1 0) kinds.Csv
+      sum_by-cons (λ (j : Kind). cond (same_kind j k) 1 0) grown_kind
           (map form_kind (listed_parts list (i + 1) paths)),
       sum_by-cons (λ (b : Blank). cond (is_blank_of k b) 1 0) (source first)
           (sources (first + 1) count),

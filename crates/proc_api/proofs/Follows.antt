@@ -1,5 +1,5 @@
 -- The view of a node is one that its box may be prepared against.
-use Rattle.proc_api.proofs.Imports.{Action, AreAsKept, BoxPicture, Flags, FollowsKept, Input, InputFollows, InputPort, IsSound, List, MaySee, None, Option, Output, OutputFollows, Picture, PortFlags, Some, Spec, StandStill, Table, TakesFirstAction, after_see, all_port_flags, and_from, arith, get_or-replicate, in_count, in_count-with_input, in_count-with_output, inl, input_at, input_at-with_input, input_at-with_input-other, input_at-with_output, kept_input, kept_inputs, kept_output, kept_outputs, length-map, length-replicate, new_picture, no_notes, out_count, out_count-with_input, out_count-with_output, output_at, output_at-with_input, output_at-with_output, output_at-with_output-other, refl, seen_chunk, subst, sym, with_actions, with_input, with_output, ℕ, ◌<◌, ◌∙◌, ◌≡◌, ◌≤◌}
+use Rattle.proc_api.proofs.Imports.{Action, AreAsKept, BoxPicture, Flags, FollowsKept, Input, InputFollows, InputPort, IsSound, List, MaySee, None, Option, Output, OutputFollows, Picture, PortFlags, Some, Spec, StandStill, Table, TakesFirstAction, after_see, all_port_flags, and_from, arith, get_or-replicate, in_count, in_count-with_input, in_count-with_output, input_at, input_at-with_input, input_at-with_input-other, input_at-with_output, kept_input, kept_inputs, kept_output, kept_outputs, length-map, length-replicate, new_picture, no_notes, out_count, out_count-with_input, out_count-with_output, output_at, output_at-with_input, output_at-with_output, output_at-with_output-other, refl, seen_chunk, subst, sym, with_actions, with_input, with_output, ℕ, ◌<◌, ◌∙◌, ◌≡◌, ◌≤◌}
 use Rattle.proc_api.proofs.KeptFlags.{kept_input-of, kept_output-of, kept_inputs-of, kept_outputs-of}
 use Rattle.proc_api.proofs.ShutPorts.{by-place}
 
@@ -33,10 +33,7 @@ follows-same p q v e f = search arith
 -- as many ports as the last view had are those that the spec's ports stand still at
 pub position-still : (s : Option Spec) (kept : Option PortFlags) (m n : ℕ) → AreAsKept kept m n
     → StandStill s kept m n
-position-still (Some Spec.Resize) kept m n h = inl h
-position-still (Some (Spec.MergeAggregate groups)) kept m n h = h
-position-still (Some (Spec.MergeSorted order)) kept m n h = h
-position-still s kept m n h = tt
+position-still s kept m n h = grind arith
 
 pub as-kept-noted : (q : BoxPicture) (w : Picture) (m n : ℕ) → q.notes.view
     ≡ Some (all_port_flags w) → in_count w ≡ m → out_count w ≡ n → AreAsKept q.notes.view m n

@@ -1,7 +1,7 @@
 -- Laws of graphs: the ports of a node in use are numbered from 0 up to their count, and a graph is
 -- built node by node and edge by edge.
-use Rattle.proc_api.proofs.Imports.{All-from_get_or, All-get_or, AllPass-from_list_all, Bool, HasInputWire, HasOutputWire, IsEdge, IsGraph, IsGraphSoFar, List, Reserve, Wire, [], all_below, and_from, and_parts, arith, both_ways, cases_lt, eq-eqb, eqb-true, false, get_or-append_seam, get_or_append_left, has_input, has_output, inl, input_count, inr, is_gapless, length, length-append, list_all, list_all-from_AllPass, no_wire, not, output_count, rank_at, refl, reserved_edges, subst, suc, sym, true, wire_at, zero, ℕ, ◌++◌, ◌+◌, ◌<◌, ◌==◌, ◌||◌, ◌∷◌, ◌≡◌, ◌≤◌}
-use Rattle.proc_api.proofs.PortCounts.{AreGapless, ArePortsOnce, count-limit, edge-of, has_port, port-below-count, port-of, port-of-count}
+use Rattle.proc_api.proofs.Imports.{All-from_get_or, All-get_or, AllPass-from_list_all, ArePortsOnce, Bool, HasInputWire, HasOutputWire, IsEdge, IsGraph, IsGraphSoFar, List, Reserve, Wire, [], all_below, and_from, and_parts, arith, both_ways, cases_lt, eq-eqb, eqb-true, false, get_or-append_seam, get_or_append_left, has_input, has_output, inl, input_count, inr, is_gapless, length, length-append, list_all, list_all-from_AllPass, no_wire, not, output_count, rank_at, refl, reserved_edges, subst, suc, sym, true, wire_at, zero, ℕ, ◌++◌, ◌+◌, ◌<◌, ◌==◌, ◌||◌, ◌∷◌, ◌≡◌, ◌≤◌}
+use Rattle.proc_api.proofs.PortCounts.{AreGapless, count-limit, edge-of, has_port, port-below-count, port-of, port-of-count}
 
 pub wire-input : (wires : List Wire) (e n i : ℕ) → e < length wires → (wire_at wires e).to ≡ n
     → (wire_at wires e).input ≡ i → has_input wires n i ≡ true
@@ -161,14 +161,14 @@ module _ (wires : List Wire) (w : Wire) where
   once-added : (node port : Wire → ℕ) → ArePortsOnce node port wires
       → has_port node port wires (node w) (port w) ≡ false
       → ArePortsOnce node port (wires ++ w ∷ [])
-  once-added node port once free e f we wf same_node same_port =
+  once-added node port once free e f we wf same =
       elim (cases_lt e (length wires)) [
         | inl le ↦ elim (cases_lt f (length wires)) [
-          | inl lf ↦ let a = wire-kept e le in let b = wire-kept f lf in once e f le lf (cc) (cc)
-          | inr gf ↦ absurd (meets e f le wf gf same_node same_port)
+          | inl lf ↦ let a = wire-kept e le in let b = wire-kept f lf in once e f le lf (cc, cc)
+          | inr gf ↦ absurd (meets e f le wf gf same.0 same.1)
         ]
         | inr ge ↦ elim (cases_lt f (length wires)) [
-          | inl lf ↦ absurd (meets f e lf we ge (sym same_node) (sym same_port))
+          | inl lf ↦ absurd (meets f e lf we ge (sym same.0) (sym same.1))
           | inr gf ↦ omega (arith, we, ge, wf, gf, length-append wires (w ∷ []))
         ]
       ]

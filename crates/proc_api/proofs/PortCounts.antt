@@ -1,7 +1,7 @@
 -- The ports of edges on one side, where `node` and `port` tell at which node an edge is, and
 -- at which port. Where no two edges are at one port, and each port below one in use is in use, the
 -- ports of a node are numbered from 0 up to their count.
-use Rattle.proc_api.proofs.Imports.{Any-from_list_any, Bool, List, Wire, [], and_from, and_parts, ap, arith, both_ways, cases_Bool, cases_lt, cond_both, count_by, eq-eqb, eqb-true, false_from_ne_true, filter, get_or_default, inl, inr, le-length_from_below, length, length-filter, length-le_from_distinct_below, length-map, list_any, list_any_at, map, no_wire, recursion_from_All, refl, subst, suc, sym, true, wire_at, ℕ, ◌&&◌, ◌<◌, ◌==◌, ◌||◌, ◌∙◌, ◌∷◌, ◌≡◌, ◌≤◌}
+use Rattle.proc_api.proofs.Imports.{Any-from_list_any, ArePortsOnce, Bool, List, Wire, [], and_from, and_parts, ap, arith, both_ways, cases_Bool, cases_lt, cond_both, count_by, eq-eqb, eqb-true, false_from_ne_true, filter, get_or_default, inl, inr, le-length_from_below, length, length-filter, length-le_from_distinct_below, length-map, list_any, list_any_at, map, no_wire, recursion_from_All, refl, subst, suc, sym, true, wire_at, ℕ, ◌&&◌, ◌<◌, ◌==◌, ◌∙◌, ◌∷◌, ◌≡◌, ◌≤◌}
 use Rattle.std.specs.List.{IsDistinct}
 
 module _ (node port : Wire → ℕ) where
@@ -12,12 +12,6 @@ module _ (node port : Wire → ℕ) where
   -- how many edges are at the node
   abbrev pub port_count : List Wire → ℕ → ℕ
   port_count wires n = count_by (λ (w : Wire). node w == n) wires
-
-  -- two edges at one port are one edge
-  abbrev pub ArePortsOnce : List Wire → Type 0
-  ArePortsOnce wires = (e f : ℕ) → e < length wires → f < length wires
-      → node (wire_at wires e) ≡ node (wire_at wires f)
-      → port (wire_at wires e) ≡ port (wire_at wires f) → e ≡ f
 
   -- each port below that of an edge has an edge
   abbrev pub AreGapless : List Wire → Type 0
@@ -53,21 +47,21 @@ module _ (node port : Wire → ℕ) where
   ports-any [] n k = refl
   ports-any (w ∷ wires) n k = search (arith, node, port, ports-any wires n k)
 
-  ports-distinct : (wires : List Wire) (n : ℕ) → ArePortsOnce wires
+  ports-distinct : (wires : List Wire) (n : ℕ) → ArePortsOnce node port wires
       → IsDistinct ◌==◌ (ports wires n)
   unfolding IsDistinct wire_at
   ports-distinct [] n once = tt
   ports-distinct (w ∷ wires) n once =
-      let rest = ports-distinct wires n (λ e f le lf at same. let s = once (suc e) (suc f)
-      (omega (arith, le)) (omega (arith, lf)) at same in omega (arith, s)) in
+      let rest = ports-distinct wires n (λ e f le lf same. let s = once (suc e) (suc f)
+      (omega (arith, le)) (omega (arith, lf)) same in omega (arith, s)) in
       cond_both (node w == n) (w ∷ edges_at wires n) (edges_at wires n)
       (λ l. IsDistinct ◌==◌ (map port l)) (λ e. (
         recursion_from_All _ (ports wires n) (λ i d lt.
             false_from_ne_true _ (λ t.
             let h = list_any_at (λ j. port w == j) (ports wires n) i d lt t in
             let a = edge-of wires n (port w) (sym (ports-any wires n (port w)) ∙ h) in
-            let s = once 0 (suc a.0) (omega arith) (omega (arith, a.1)) (eqb-true _ _ e ∙ sym a.2)
-            (sym a.3) in omega (arith, s))),
+            let s = once 0 (suc a.0) (omega arith) (omega (arith, a.1))
+            (eqb-true _ _ e ∙ sym a.2, sym a.3) in omega (arith, s))),
         rest,
       )) (λ e. rest)
 
@@ -87,7 +81,7 @@ module _ (node port : Wire → ℕ) where
       omega (arith, ports-count wires n, long)
 
   -- where each port is below a limit, no more than the limit are at a node
-  pub count-limit : (wires : List Wire) (limit : ℕ) → ArePortsOnce wires → (n : ℕ)
+  pub count-limit : (wires : List Wire) (limit : ℕ) → ArePortsOnce node port wires → (n : ℕ)
       → ((e : ℕ) → e < length wires → node (wire_at wires e) ≡ n → port (wire_at wires e) < limit)
       → port_count wires n ≤ limit
   count-limit wires limit once n under =
@@ -97,8 +91,8 @@ module _ (node port : Wire → ℕ) where
       omega (arith, ports-count wires n, short)
 
   -- each port below the count has an edge
-  pub port-of-count : (wires : List Wire) → ArePortsOnce wires → AreGapless wires → (n k : ℕ)
-      → k < port_count wires n → has_port wires n k ≡ true
+  pub port-of-count : (wires : List Wire) → ArePortsOnce node port wires → AreGapless wires
+      → (n k : ℕ) → k < port_count wires n → has_port wires n k ≡ true
   port-of-count wires once gapless n k lt = elim (cases_Bool (has_port wires n k)) [
     | inl e ↦ e
     | inr e ↦

@@ -1,42 +1,34 @@
 -- What each call of a view changes, port by port. A processor's proof takes these in the place of
 -- the calls' pictures.
-use Rattle.proc_api.proofs.Imports.{arith, Action, Bool, Close, Finish, Flags, InputPort, List, Picture, Pull, Push, Table, [], after_close, after_finish, after_need, after_pull, after_push, ap, append-nil, can_push, closed, cond, cond_both, emptied, eq-eqb, false, holds_data, in_count, in_count-with_input, in_count-with_output, input_at, input_at-with_input, input_at-with_input-other, input_at-with_output, is_out_finished, ne_eqb, not-true, noted, noted_want, out_count, out_count-with_input, out_count-with_output, output_at, output_at-with_input, output_at-with_output, output_at-with_output-other, pushes_to, refl, sym, true, with_actions, with_input, with_needed, with_output, ℕ, ◌++◌, ◌<◌, ◌||◌, ◌∙◌, ◌∷◌, ◌≡◌, ◌≢◌}
+use Rattle.proc_api.proofs.Imports.{Action, Bool, Changes, Changes-set, Close, Finish, Flags, InputPort, List, Picture, Pull, Push, Table, [], after_close, after_finish, after_need, after_pull, after_push, ap, append-nil, arith, can_push, closed, cond, cond_both, emptied, eq-eqb, false, holds_data, in_count, input_at, is_out_finished, ne_eqb, no_input, not-true, noted, noted_want, out_count, output_at, over_flags, pushes_to, refl, sym, true, with_actions, with_input, with_needed, with_output, ℕ, ◌++◌, ◌<◌, ◌||◌, ◌∙◌, ◌∷◌, ◌≡◌, ◌≢◌}
 use Rattle.proc_api.proofs.CallLaws.{pushes_to-append, pushes_to-noted_want}
 
 -- input i alone is changed, to x, and nothing is pushed
 pub record TurnsInput (p : Picture) (i : ℕ) (x : InputPort) (q : Picture) : Type 0 where
-  pub here : input_at q i ≡ x
-  pub others : (j : ℕ) → j ≢ i → input_at q j ≡ input_at p j
-  pub outputs : (o : ℕ) → output_at q o ≡ output_at p o
-  pub ins : in_count q ≡ in_count p
-  pub outs : out_count q ≡ out_count p
+  pub inputs : Changes no_input i (λ was now. now ≡ x) p.inputs q.inputs
+  pub outputs : q.outputs ≡ p.outputs
   pub pushes : (o : ℕ) → pushes_to o q.actions ≡ pushes_to o p.actions
 
 -- output o alone is changed, to f, and these chunks are pushed there
 pub record TurnsOutput (p : Picture) (o : ℕ) (f : Flags) (chunks : List Table)
     (q : Picture) : Type 0 where
-  pub here : output_at q o ≡ f
-  pub others : (j : ℕ) → j ≢ o → output_at q j ≡ output_at p j
-  pub inputs : (i : ℕ) → input_at q i ≡ input_at p i
-  pub ins : in_count q ≡ in_count p
-  pub outs : out_count q ≡ out_count p
+  pub outputs : Changes over_flags o (λ was now. now ≡ f) p.outputs q.outputs
+  pub inputs : q.inputs ≡ p.inputs
   pub pushes : pushes_to o q.actions ≡ pushes_to o p.actions ++ chunks
   pub other_pushes : (j : ℕ) → j ≢ o → pushes_to j q.actions ≡ pushes_to j p.actions
 
-same-input : (p : Picture) (i : ℕ) (x : InputPort) → input_at p i ≡ x → TurnsInput p i x p
+pub same-input : (p : Picture) (i : ℕ) (x : InputPort) → input_at p i ≡ x → TurnsInput p i x p
+unfolding input_at
 same-input p i x e = search arith
 
 -- input i is set to x, and the actions become others that push the same
 set-input : (p : Picture) (i : ℕ) (x : InputPort) (actions : List Action) → i < in_count p
     → ((o : ℕ) → pushes_to o actions ≡ pushes_to o p.actions)
     → TurnsInput p i x (with_actions (with_input p i x) actions)
-unfolding with_actions input_at output_at in_count out_count
+unfolding with_actions with_input in_count
 set-input p i x actions lt same = record {
-  here = input_at-with_input p i x lt;
-  others = λ j ne. input_at-with_input-other p i j x ne;
-  outputs = λ o. output_at-with_input p i o x;
-  ins = in_count-with_input p i x;
-  outs = out_count-with_input p i x;
+  inputs = Changes-set no_input i _ p.inputs x lt refl;
+  outputs = refl;
   pushes = same;
 }
 
@@ -100,18 +92,16 @@ unfolding pushes_to
 pull-turns p i lt h = rw h (noted-input p i (emptied (input_at p i)) (Pull i) lt (λ o. refl))
 
 same-output : (p : Picture) (o : ℕ) (f : Flags) → output_at p o ≡ f → TurnsOutput p o f [] p
+unfolding output_at
 same-output p o f e = search (arith, append-nil)
 
 noted-output : (p : Picture) (o : ℕ) (f : Flags) (a : Action) → o < out_count p
     → ((j : ℕ) → j ≢ o → pushes_to j (a ∷ []) ≡ [])
     → TurnsOutput p o f (pushes_to o (a ∷ [])) (noted (with_output p o f) a)
-unfolding with_actions with_output input_at output_at in_count out_count
+unfolding with_actions with_output out_count
 noted-output p o f a lt e = record {
-  here = output_at-with_output p o f lt;
-  others = λ j ne. output_at-with_output-other p o j f ne;
-  inputs = λ i. input_at-with_output p o i f;
-  ins = in_count-with_output p o f;
-  outs = out_count-with_output p o f;
+  outputs = Changes-set over_flags o _ p.outputs f lt refl;
+  inputs = refl;
   pushes = pushes_to-append o p.actions (a ∷ []);
   other_pushes = λ j ne. nothing-more j a p.actions (e j ne);
 }

@@ -163,6 +163,10 @@ no_notes = record {
   fits = true;
 }
 
+-- as a spec past the last one of a list is read
+abbrev pub no_spec : Spec
+no_spec = Spec.Collect
+
 -- a blank box that keeps no contract, as a box past the last one of a list is read
 abbrev pub no_box : BoxPicture
 no_box = record {

@@ -1,16 +1,16 @@
 -- The clauses of a processor's calls, over what is seen of the box before and after a call.
-use Rattle.std.specs.Prelude.{◌+◌, ◌<◌, ◌≡◌, ◌≢◌, ◌≤◌, ◌⊎◌}
+use Rattle.std.specs.Prelude.{T, ◌+◌, ◌<◌, ◌||◌, ◌≡◌, ◌≢◌, ◌≤◌, ◌⊎◌}
 use Rattle.proc_api.specs.Prelude.{Answer, Files, Growth, IfSome, InputPort, IsAllFinished, IsSome, IsTrue, Kind, List, LoadRefusal, None, Option, PartSpec, Picture, Prepared, Scheduled, Some, Spec, Status, WaitsForData, WaitsForRoom, Wake, WorkFault, [], bad_line_in, false, file_bytes, kind_of, length, map, out_count, part_bad_place, true, ℕ, ⊤}
-use Rattle.query_model.specs.declared.processor_spec.Kind.TheVariants as kind
 use Rattle.proc_api.specs.declared.status.Wake.TheVariants as wake
 use Rattle.proc_api.specs.declared.status.WorkFault.TheVariants as fault
 use Rattle.proc_api.specs.Boxes.{BoxPicture, FileSeen, PortFlags, file_of, no_notes}
 use Rattle.proc_api.specs.Forms.{growth_form}
 use Rattle.proc_api.specs.Histories.{Lists, chunk_rows, no_lists, pulled_at, raised, rows_pulled, with_pulled, with_pushed}
 use Rattle.proc_api.specs.Keeping.{Keeps}
+use Rattle.proc_api.specs.KindContract.{ArePartBytes}
+use Rattle.proc_api.specs.KindRows.{ReadsList, ReadsPart, row_of}
 use Rattle.proc_api.specs.Ports.{AllOutputsFinished, HasNoRoom, HasPorts, HasRoom, IsShut, SameChunks, StaysFit}
 use Rattle.proc_api.specs.SpecContracts.{HasReadEnough, IsWanting, MayGrow, OfPart}
-use Rattle.proc_api.specs.kinds.Csv.{ArePartBytes}
 
 -- ---- what stays
 
@@ -102,9 +102,7 @@ pub record IsUnloadedProcessor (k : Kind) (p : BoxPicture) : Type 0 where
 
 -- the kinds that read a file
 abbrev pub IsSourceKind : Kind → Type 0
-IsSourceKind kind.Csv = ⊤
-IsSourceKind kind.List = ⊤
-IsSourceKind _ = ⊥
+IsSourceKind k = T ((row_of k).reads_part || (row_of k).reads_list)
 
 -- no reader: it tells no files, and its counts are 0
 pub record HasNoReader (p : BoxPicture) : Type 0 where
@@ -166,7 +164,7 @@ StatusHolds Status.Finished w = IsAllFinished w
 
 -- a source has to answer its part's bad place, or its list's bad line
 abbrev pub IsBadFile : Kind → FileSeen → Type 0
-IsBadFile k f = ((k ≡ kind.Csv) × IsSome f.bad) ⊎ ((k ≡ kind.List) × IsSome f.bad_line)
+IsBadFile k f = (ReadsPart k × IsSome f.bad) ⊎ (ReadsList k × IsSome f.bad_line)
 
 -- a chunk isn't worked, rows that can be pushed aren't made, or a bad file has to be answered
 abbrev pub MayBeReady : BoxPicture → Type 0
@@ -175,7 +173,7 @@ MayBeReady p = (0 < length p.work.unworked)
 
 -- a list that names a path and hasn't grown
 pub record MayExpand (k : Kind) (f : FileSeen) : Type 0 where
-  pub list : k ≡ kind.List
+  pub list : ReadsList k
   pub ungrown : f.growth ≡ None
   pub names_path : 0 < length f.paths
 
@@ -352,9 +350,9 @@ FaultHolds (Some fault.Memory) p = ⊤
 FaultHolds (Some fault.Read) p = 0 < p.notes.faults
 FaultHolds (Some fault.Stalled) p = 1000000 ≤ p.notes.pendings
 FaultHolds (Some fault.TooLong) p = 1073741824 < p.notes.given
-FaultHolds (Some (fault.Bad place)) p = (p.kind ≡ kind.Csv) × IfSome p.files (λ files.
+FaultHolds (Some (fault.Bad place)) p = ReadsPart p.kind × IfSome p.files (λ files.
     OfPart p.spec (λ part. part_bad_place part.header part.types files part.path ≡ Some place))
-FaultHolds (Some (fault.BadList line)) p = (p.kind ≡ kind.List) × IfSome p.files (λ files.
+FaultHolds (Some (fault.BadList line)) p = ReadsList p.kind × IfSome p.files (λ files.
     OfPart p.spec (λ part. bad_line_in (file_bytes files part.path) ≡ Some line))
 
 -- the file has more bytes than a part or list may have

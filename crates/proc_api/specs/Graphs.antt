@@ -1,5 +1,6 @@
 -- Graphs of processors: each node has a rank, each edge goes from a lower rank to a higher one, and
 -- the ports of a node that are in use have one edge each and are numbered from 0 without a gap.
+use Rattle.chunk_data.specs.Places.{AreOnceBy}
 use Rattle.std.specs.Prelude.{◌&&◌, ◌+◌, ◌<◌, ◌==◌, ◌||◌, ◌≡◌, ◌≤◌}
 use Rattle.proc_api.specs.Prelude.{Bool, List, Reserve, Wire, count_by, length, list_all, list_any, not, slice_index_or, suc, sum_by, true, zero, ℕ}
 use Rattle.proc_api.specs.Settled.{wire_at}
@@ -53,6 +54,11 @@ pub record IsEdge (ranks : List ℕ) (w : Wire) : Type 0 where
   pub few_inputs : w.input < 32
   pub few_outputs : w.out < 16
 
+-- two edges at one port are one edge, where `node` and `port` tell at which port an edge is
+abbrev pub ArePortsOnce : (node port : Wire → ℕ) → List Wire → Type 0
+ArePortsOnce node port wires = AreOnceBy (length wires) (λ e f. (node (wire_at wires e)
+    ≡ node (wire_at wires f)) × (port (wire_at wires e) ≡ port (wire_at wires f)))
+
 -- A graph to which edges may still be added: two edges at one port are one edge. What is kept for
 -- growth counts among the edges.
 pub record IsGraphSoFar (ranks : List ℕ) (wires : List Wire)
@@ -60,10 +66,8 @@ pub record IsGraphSoFar (ranks : List ℕ) (wires : List Wire)
   pub few_nodes : length ranks ≤ 256
   pub few_edges : length wires + reserved_edges reserves ≤ 1024
   pub edges : (e : ℕ) → e < length wires → IsEdge ranks (wire_at wires e)
-  pub inputs_once : (e f : ℕ) → e < length wires → f < length wires → (wire_at wires e).to
-      ≡ (wire_at wires f).to → (wire_at wires e).input ≡ (wire_at wires f).input → e ≡ f
-  pub outputs_once : (e f : ℕ) → e < length wires → f < length wires → (wire_at wires e).from
-      ≡ (wire_at wires f).from → (wire_at wires e).out ≡ (wire_at wires f).out → e ≡ f
+  pub inputs_once : ArePortsOnce (λ w. w.to) (λ w. w.input) wires
+  pub outputs_once : ArePortsOnce (λ w. w.from) (λ w. w.out) wires
 
 -- a graph
 pub record IsGraph (ranks : List ℕ) (wires : List Wire) (reserves : List Reserve) : Type 0 where

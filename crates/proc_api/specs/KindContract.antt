@@ -1,6 +1,6 @@
 -- What is said of a kind of processors, in one record: that of each kind stands in the file of its
 -- name in `kinds/`, with the words of its own. Here is what several kinds share.
-use Rattle.std.specs.Prelude.{◌<◌, ◌≡◌, ◌⊎◌}
+use Rattle.std.specs.Prelude.{◌++◌, ◌<◌, ◌≡◌, ◌⊎◌}
 pub use Rattle.proc_api.specs.Prelude.{All, AllByRecursion, Bool, ColumnType, Cond, Contains, Edge, Expr, Files, GroupSpec, IfSome, IsItem, IsPermutation, IsSorted, IsTypedCond, JoinSpec, KeyPair, List, Me, New, None, Option, PartSpec, Row, Some, SortKey, SortSpec, Span, Table, Who, [], bad_line_in, bad_place, cond, count_by, drop, enough, false, file_bytes, filter, flat_map, good_rows, holds, is_lt, item_row, joined_rows, length, limited, list_all, map, min, nat_lt, no_flags, numbers, part_records, paths_in, row_cmp, slice_index_or, suc, true, type_of, zero, ℕ, ⊤}
 pub use Rattle.proc_api.specs.Boxes.{FileSeen, InputHead, OwnState, PortFlags, Reading, WorkState, idle_work, kept_ports, unworked_at}
 pub use Rattle.proc_api.specs.Forms.{GrowthForm, unboxed}
@@ -33,6 +33,28 @@ AreAsKept (Some ports) inputs outputs =
 abbrev pub MayGrowOpen : Option PortFlags → (inputs outputs : ℕ) → Type 0
 MayGrowOpen kept inputs outputs = AreAsKept kept inputs outputs ⊎ AreOpen (kept_ports kept)
 
+-- the bytes of a part or list: those of its file, where files are told, and else any
+abbrev pub ArePartBytes : Option Files → List ℕ → List ℕ → Type 0
+ArePartBytes None path bytes = ⊤
+ArePartBytes (Some files) path bytes = file_bytes files path ≡ Some bytes
+
+-- nothing is in any list but the first
+abbrev pub IsFirstAlone : Lists → Type 0
+IsFirstAlone lists = (i : ℕ) → 0 < i → lists i ≡ []
+
+-- Rows are passed on as they are, each as often. Where one input gives all and one output takes
+-- all, in order.
+pub record AreResized (worked outs : Lists) (wait : List Row) : Type 0 where
+  pub same_rows : IsPermutation (all_rows 32 worked) (all_rows 16 outs ++ wait)
+  pub in_order : IsFirstAlone worked → IsFirstAlone outs
+      → chunk_rows (outs 0) ++ wait ≡ chunk_rows (worked 0)
+
+-- what a kind reads of files: nothing, the rows of a part, or the list of a table's parts
+pub data FileRead : Type 0 where
+  NoFile : FileRead
+  PartFile : PartSpec → FileRead
+  PartsFile : PartSpec → FileRead
+
 -- ---- the record
 
 -- what is true of most kinds, and of few not
@@ -52,14 +74,16 @@ pub record KindTraits : Type 1 where
   pub reads_whole : Type 0
   -- its node has in every run the ports that the plan gives it
   pub ungrown : Type 0
-  -- the part or list file of the spec, and by what it may let its graph grow, over the files that
-  -- its reader tells
-  pub part : Option PartSpec
+  -- the file that it reads, and by what it may let its graph grow, over the files that its reader
+  -- tells
+  pub reads : FileRead
   pub grows : Option Files → GrowthForm → Type 0
   -- by what it lets its graph grow, where its list names these paths
   pub growth : List (List ℕ) → Option GrowthForm
   -- what is known of its file once it has itself finished an output
   pub read_out : FileSeen → Type 0
+  -- what it has made is said of the rows of output 0 and those that wait, in order
+  pub in_order : Bool
 
 pub record KindContract : Type 1 where
   -- so many inputs and outputs are the ports of the spec and the growth
@@ -94,10 +118,11 @@ chunk_by_chunk = record {
   wanting = λ read. ⊤;
   reads_whole = ⊤;
   ungrown = ⊤;
-  part = None;
+  reads = NoFile;
   grows = λ files g. ⊥;
   growth = λ paths. None;
   read_out = λ f. ⊤;
+  in_order = true;
 }
 
 -- it reads all inputs to their ends before it makes a row

@@ -2,7 +2,7 @@
 use Rattle.proc_api.specs.Prelude.{Kind, List, Table, [], cond, false, true, Bool, ℕ}
 use Rattle.query_model.specs.declared.processor_spec.Kind.TheVariants as kind
 use Rattle.proc_api.specs.Boxes.{WorkState}
-use Rattle.std.specs.Prelude.{◌∷◌, codes}
+use Rattle.std.specs.Prelude.{◌∷◌, ◌≡◌, codes}
 
 pub record KindFacts : Type 0 where
   -- its place in the order of kinds
@@ -17,6 +17,10 @@ pub record KindFacts : Type 0 where
   pub passes_on : Bool
   -- it hands out the chunks that it gathered
   pub hands_out : Bool
+  -- it reads a part's file, whose rows it makes
+  pub reads_part : Bool
+  -- it reads a list's file, and boxes are kept for the parts that this names
+  pub reads_list : Bool
 
 abbrev pub usual_row : (place : ℕ) → (name : List ℕ) → (stock : ℕ) → KindFacts
 usual_row place name stock = record {
@@ -26,11 +30,13 @@ usual_row place name stock = record {
   works_long = true;
   passes_on = false;
   hands_out = false;
+  reads_part = false;
+  reads_list = false;
 }
 
 abbrev pub row_of : Kind → KindFacts
-row_of kind.Csv = usual_row 0 (codes "Csv") 64
-row_of kind.List = usual_row 1 (codes "List") 2
+row_of kind.Csv = record (usual_row 0 (codes "Csv") 64) { reads_part = true }
+row_of kind.List = record (usual_row 1 (codes "List") 2) { reads_list = true }
 row_of kind.Numbers = usual_row 2 (codes "Numbers") 2
 row_of kind.Filter = record (usual_row 3 (codes "Filter") 17) { works_long = false }
 row_of kind.Expression = record (usual_row 4 (codes "Expression") 17) { works_long = false }
@@ -49,6 +55,16 @@ all_kinds =
     kind.Csv ∷ kind.List ∷ kind.Numbers ∷ kind.Filter ∷ kind.Expression ∷ kind.Resize
     ∷ kind.PartialAggregate ∷ kind.MergeAggregate ∷ kind.HashJoin ∷ kind.Sort ∷ kind.MergeSorted
     ∷ kind.Limit ∷ kind.Collect ∷ []
+
+-- the kind of the boxes that are kept for growth: a list grows by a source for each of its parts
+abbrev pub grown_kind : Kind
+grown_kind = kind.Csv
+
+abbrev pub ReadsPart : Kind → Type 0
+ReadsPart k = (row_of k).reads_part ≡ true
+
+abbrev pub ReadsList : Kind → Type 0
+ReadsList k = (row_of k).reads_list ≡ true
 
 -- the place of a kind in the order of kinds
 abbrev pub kind_place : Kind → ℕ

@@ -4,7 +4,7 @@ use Rattle.proc_api.specs.Boxes.{FileSeen, OwnState, PortFlags, Reading, WorkSta
 use Rattle.query_model.specs.declared.processor_spec.Spec.TheVariants as spec
 use Rattle.proc_api.specs.Forms.{GrowthForm}
 use Rattle.proc_api.specs.Histories.{Lists}
-use Rattle.proc_api.specs.KindContract.{KindContract, chunk_by_chunk}
+use Rattle.proc_api.specs.KindContract.{FileRead, KindContract, NoFile, PartFile, PartsFile, chunk_by_chunk}
 use Rattle.proc_api.specs.kinds.Collect.{collect_contract}
 use Rattle.proc_api.specs.kinds.Csv.{part_contract}
 use Rattle.proc_api.specs.kinds.Expression.{expression_contract}
@@ -108,14 +108,18 @@ IsNoLimit s = (contract_of (Some s)).traits.reads_whole
 abbrev pub IsUngrown : Spec → Type 0
 IsUngrown s = (contract_of (Some s)).traits.ungrown
 
--- of the value of an option, which is there
-abbrev pub HasSome : {A : Type 0} → Option A → (A → Type 0) → Type 0
-HasSome None P = ⊥
-HasSome (Some x) P = P x
+-- the file that a kind reads
+abbrev pub file_read : Option Spec → FileRead
+file_read s = (contract_of s).traits.reads
+
+abbrev pub OfFile : FileRead → (PartSpec → Type 0) → Type 0
+OfFile NoFile P = ⊥
+OfFile (PartFile part) P = P part
+OfFile (PartsFile list) P = P list
 
 -- the part or list file of a spec
 abbrev pub OfPart : Option Spec → (PartSpec → Type 0) → Type 0
-OfPart s P = HasSome (contract_of s).traits.part P
+OfPart s P = OfFile (file_read s) P
 
 -- What a lawful box of the spec, whose reader tells these files, may let its graph grow by. It is
 -- said of a box that faults later too.

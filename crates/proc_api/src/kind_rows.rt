@@ -33,6 +33,8 @@ pub struct KindRow {
     pub passes_on: bool,
     /// Whether it hands out the chunks that it gathered.
     pub hands_out: bool,
+    /// Whether it reads a list's file, so that boxes are kept for the parts that this names.
+    pub reads_list: bool,
 }
 
 pub fn kind_row(kind: Kind) -> KindRow
@@ -41,10 +43,14 @@ pub fn kind_row(kind: Kind) -> KindRow
     ensures long { result.works_long ≡ (row_of kind).works_long }
     ensures passes { result.passes_on ≡ (row_of kind).passes_on }
     ensures hands { result.hands_out ≡ (row_of kind).hands_out }
+    ensures lists { result.reads_list ≡ (row_of kind).reads_list }
 {
     match kind {
         Kind::Csv => usual_row(b"Csv", 64),
-        Kind::List => usual_row(b"List", 2),
+        Kind::List => KindRow {
+            reads_list: true,
+            ..usual_row(b"List", 2)
+        },
         Kind::Numbers => usual_row(b"Numbers", 2),
         // A filter or an expression goes once over a chunk.
         Kind::Filter => KindRow {
@@ -79,6 +85,7 @@ fn usual_row(name: &'static [u8], stock: u32) -> KindRow
     ensures long { result.works_long ≡ true }
     ensures passes { result.passes_on ≡ false }
     ensures hands { result.hands_out ≡ false }
+    ensures lists { result.reads_list ≡ false }
 {
     KindRow {
         name,
@@ -86,5 +93,6 @@ fn usual_row(name: &'static [u8], stock: u32) -> KindRow
         works_long: true,
         passes_on: false,
         hands_out: false,
+        reads_list: false,
     }
 }

@@ -1,6 +1,5 @@
 -- A shell keeps the contract of its kernel's kind over a prepare.
 use Rattle.proc_shell.proofs.Imports.{All, All-append, All-behind, All-weaker, AllOutputsClosed, AnswerComes, AreOpen, ArePortsOf, Bool, BoxPicture, Continues, CountsRows, EndsNow, Flags, FollowsKept, GrowthForm, HadPorts, HasEnough, HasNotedEnd, HasReadEnough, HasSamePorts, HasSize, HasSpecPorts, Held, InputFollows, IsOver, IsPulled, IsReadUp, Keeps, KeepsMade, KeepsOver, KernelState, Kind, List, Lists, MakesTypes, MayBeInput, Means, Moves, None, Notes, NotesEnd, Nothing, Option, OwnState, Passes, Picture, PortFlags, Prepared, PullsNoMore, PullsOne, Pushes, ReaderView, RowCount, Some, Spec, StandStill, Status, StaysFit, Table, [], all-fitting, all_port_flags, ap, append-nil, append_assoc, append_cancel_right, ap₂, arith, both_ways, by-place, cases_eq, cases_lt, chunk_rows, common_steps, cond, cond_both, counted-more, enough-more, eq-eqb, false, false_from_ne_true, front-all, gathered_with, get_or, growth_in, held_made, held_unworked, in_count, inl, input_at, inr, is_ended, is_in_finished, is_out_finished, kept_input, kept_input-of, kept_input-past, kept_inputs, kept_inputs-of, kept_output, kept_output-of, kept_output-past, kept_outputs, kept_outputs-of, kept_ports, length, loaded_seen, makes-more, may-be-input, ne_eqb, never-enough, not-true, or_cases, out_count, output_at, own_of, pulled-last, pulled-more, pulled_at, pushed_at, raised, reading_of, refl, rows_pulled, shell_state, source_of, subst, sym, taken_out, total_rows, true, unworked_at, wanting-not-enough, with_pulled, with_pushed, ℕ, ◌++◌, ◌<◌, ◌==◌, ◌||◌, ◌∙◌, ◌∷◌, ◌≡◌, ◌≢◌, ◌≤◌, ◌⊎◌, HasMade, Reading, Row}
-use Rattle.query_model.specs.declared.processor_spec.Spec.TheVariants as spec
 use Rattle.proc_api.specs.declared.status.Status.TheVariants as status
 use Rattle.proc_shell.proofs.PortMoves.{all-or, both-none, kept-count, never-true, outs-count}
 use Rattle.proc_shell.proofs.TurnLaws.{holds-unended}
@@ -29,8 +28,7 @@ ended-stays a b f e = grind (arith, common_steps, not-true)
 -- a kind that notes an end has the same ports before and after a growth
 noted-ports : (s : Spec) (own : OwnState) (i m n : ℕ) (growth : Option GrowthForm)
     → NotesEnd (Some s) own i → ArePortsOf (Some s) None m n → ArePortsOf (Some s) growth m n
-noted-ports (spec.List list) own i m n growth noted h = absurd noted
-noted-ports s own i m n growth noted h = h
+noted-ports s own i m n growth noted h = grind arith
 
 -- while it asks to grow, each port is open
 opens-now : (x : KernelState) (k : Held) (w : Picture) (st : Status) → AnswerComes st x k w
@@ -47,28 +45,22 @@ had-same (Some ports) p q spec growth had = rw (spec, growth) had
 -- what the kernel notes is no matter of what it gathered
 pub noted-own : (s : Spec) (a : OwnState) (l m : List Table) (i : ℕ) → NotesEnd (Some s)
     (record a { gathered = l }) i → NotesEnd (Some s) (record a { gathered = m }) i
-noted-own spec.Collect a l m i n = n
-noted-own s a l m i n = n
+noted-own s a l m i n = grind arith
 
 pub end-own : (s : Spec) (a : OwnState) (l m : List Table)
     → HasNotedEnd s (record a { gathered = l }) → HasNotedEnd s (record a { gathered = m })
-end-own spec.Collect a l m n = n
-end-own s a l m n = n
+end-own s a l m n = grind arith
 
 -- what a kernel has made, as its box shows it with the chunk that isn't worked yet
 pub made-shown : (s : Spec) (x : Reading) (a : OwnState) (worked outs : Lists) (wait : List Row)
     → Means x s a worked outs wait
     → HasMade x s (record a { gathered = gathered_with s a.gathered x.unworked }) worked outs wait
-made-shown spec.Collect x a worked outs wait h =
-    ap (λ l. l ++ x.unworked) (h ∙ append-nil (worked 0))
-made-shown s x a worked outs wait h = h
+made-shown s x a worked outs wait h = grind (arith, append-nil)
 
 pub made-hidden : (s : Spec) (x : Reading) (a : OwnState) (worked outs : Lists) (wait : List Row)
     → HasMade x s (record a { gathered = gathered_with s a.gathered x.unworked }) worked outs wait
     → Means x s a worked outs wait
-made-hidden spec.Collect x a worked outs wait h =
-    append_cancel_right a.gathered (worked 0) x.unworked h ∙ sym (append-nil (worked 0))
-made-hidden s x a worked outs wait h = h
+made-hidden s x a worked outs wait h = grind (arith, append-nil, append_cancel_right)
 
 -- the count of a prepare, which pulls nothing where it pushes
 pub pulled-so : (h m : Held) (v u w : Picture) (old new : RowCount) → Pushes h m v u

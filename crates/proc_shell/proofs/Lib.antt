@@ -7,7 +7,4 @@ pub mod KeepLaws
 pub mod BoxLaws
 pub mod Through
 pub mod Resizing
-pub mod Parts
-pub mod Lists
-pub mod Gathering
 pub mod SeveralTurns

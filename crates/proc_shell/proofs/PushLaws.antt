@@ -1,6 +1,6 @@
 -- Pushing what was made.
 use Rattle.proc_shell.proofs.BoxLaws.{by-rows}
-use Rattle.proc_shell.proofs.Imports.{Held, IsFreeOutput, IsOutOfRoom, IsSound, List, Made, Nothing, PassesOn, Picture, Pushes, Table, Unworked, [], after_push, ap, arith, by-place, changed-by-none, changed-by-one, common_steps, empty-of, held_made, held_unworked, inl, inr, is_out_finished, just-pushed, length, none-pushed, out_count, output_at, push-turns, push_call, refl, source_of, subst, sym, ℕ, ◌++◌, ◌<◌, ◌∷◌, ◌≡◌, ◌⊎◌}
+use Rattle.proc_shell.proofs.Imports.{Held, IsFreeOutput, IsOutOfRoom, IsSound, List, Made, Nothing, PassesOn, Picture, Pushes, Table, Unworked, [], after_push, ap, arith, by-place, changed-by-none, changed-by-one, common_steps, empty-of, get_or, held_made, held_unworked, in_count, inl, input_at, inr, is_out_finished, just-pushed, length, no_input, none-pushed, out_count, output_at, push-turns, push_call, refl, source_of, subst, sym, ℕ, ◌++◌, ◌<◌, ◌∷◌, ◌≡◌, ◌⊎◌}
 use Rattle.proc_shell.proofs.PortMoves.{never-true}
 
 -- the view stays, and these chunks are dropped, where there is no output
@@ -24,6 +24,7 @@ pushes-nowhere c v sound none = still-pushes (Made c) Nothing (c ∷ []) v sound
 -- the chunk leaves by an output that is free
 pub pushes-one : (c : Table) (v w : Picture) (o : ℕ) → IsSound v → IsFreeOutput v o → w
     ≡ after_push v o c → Pushes (Made c) Nothing v w
+unfolding input_at output_at in_count out_count
 pushes-one c v w o sound free e = subst (λ u. Pushes (Made c) Nothing v u) (sym e) made
   where
     made : Pushes (Made c) Nothing v (after_push v o c)
@@ -32,13 +33,15 @@ pushes-one c v w o sound free e = subst (λ u. Pushes (Made c) Nothing v u) (sym
         let u = after_push v o c in
         record {
           changed = changed-by-one v u (push_call o c) refl;
-          ins = t.ins;
-          outs = t.outs;
-          inputs = t.inputs;
+          ins = ap length t.inputs;
+          outs = t.outputs.len;
+          inputs = λ i. ap (λ l. get_or l i no_input) t.inputs;
           finished = λ j. by-place (λ n. (output_at u n).fin_out ≡ (output_at v n).fin_out) o j
-              (ap (λ f. f.fin_out) t.here) (λ ne. ap (λ f. f.fin_out) (t.others j ne));
+              (ap (λ f. f.fin_out) t.outputs.here)
+              (λ ne. ap (λ f. f.fin_out) (t.outputs.others j ne));
           closed = λ j. by-place (λ n. (output_at u n).fin_in ≡ (output_at v n).fin_in) o j
-              (ap (λ f. f.fin_in) t.here) (λ ne. ap (λ f. f.fin_in) (t.others j ne));
+              (ap (λ f. f.fin_in) t.outputs.here)
+              (λ ne. ap (λ f. f.fin_in) (t.outputs.others j ne));
           unworked = refl;
           source = refl;
           out = o;

@@ -5,17 +5,18 @@ use Rattle.proc_shell.proofs.PortMoves.{both-none}
 use Rattle.proc_shell.proofs.SeveralTurns.{PassesChunks}
 use Rattle.proc_shell.proofs.Through.{all-more, chunk-elsewhere, chunk-here, rows-here}
 
+-- nothing was passed on
+pub resized-nothing : AreResized no_lists no_lists []
+resized-nothing = record {
+  same_rows = rw (no-rows 16, no-rows 32) (IsPermutation-refl []);
+  in_order = λ a b. refl;
+}
+
 pub begins-resized : (s : Spec) → s ≡ spec.Resize → Begins s spec.Resize idle_own
 begins-resized s e = record {
   spec = sym e;
   nothing = λ files. subst (λ z. Means (unread files) z
-      idle_own no_lists no_lists []) (sym e) (
-        refl,
-        record {
-          same_rows = rw (no-rows 16, no-rows 32) (IsPermutation-refl []);
-          in_order = λ a b. refl;
-        },
-      );
+      idle_own no_lists no_lists []) (sym e) (refl, resized-nothing);
   unended = λ i n. n;
 }
 

@@ -1,7 +1,6 @@
 -- Kinds of one input and one output, and among them those that make something of each chunk by
 -- itself.
-use Rattle.proc_shell.proofs.Imports.{AreCounts, ArePortsOf, Bool, FitsInput, GrowthForm, IfSome, IsAtMost, IsPermutation, IsPulled, IsShelled, KernelState, LetsPush, List, Lists, Makes, MakesTypes, Means, None, Option, OwnState, Reading, Row, Some, Spec, Table, Takes, [], all_rows, ap, append-nil, arith, chunk_rows, common_steps, cond, eq-eqb, eqb-true, false, inl, inr, length, more-rows, most_rows, ne_eqb, refl, rows-append, rows_if_some, subst, sym, true, with_chunk, work_of, ℕ, ◌++◌, ◌<◌, ◌==◌, ◌∙◌, ◌∷◌, ◌≡◌, ◌≢◌, ◌⊎◌, AreAsKept, PortFlags, StandStill}
-use Rattle.query_model.specs.declared.processor_spec.Spec.TheVariants as spec
+use Rattle.proc_shell.proofs.Imports.{AreCounts, ArePortsOf, Bool, FitsInput, GrowthForm, IfSome, IsAtMost, IsPermutation, IsPulled, IsShelled, KernelState, LetsPush, List, Lists, Makes, MakesTypes, Means, None, Option, OwnState, Reading, Row, Some, Spec, Table, Takes, [], all_rows, ap, append-nil, arith, chunk_rows, common_steps, cond, contract_of, eq-eqb, eqb-true, inl, inr, length, more-rows, most_rows, ne_eqb, refl, rows-append, rows_if_some, subst, sym, true, with_chunk, work_of, ℕ, ◌++◌, ◌<◌, ◌==◌, ◌∙◌, ◌∷◌, ◌≡◌, ◌≢◌, ◌⊎◌, AreAsKept, PortFlags, StandStill}
 
 -- ---- what is worked
 
@@ -39,21 +38,14 @@ makes-nothing s own e = grind (arith, common_steps)
 
 -- ---- one output
 
--- the kinds of which something is said of the rows of output 0 and those that wait, in order
 abbrev pub is_in_order : Spec → Bool
-is_in_order (spec.List list) = false
-is_in_order spec.Resize = false
-is_in_order spec.Collect = false
-is_in_order s = true
+is_in_order s = (contract_of (Some s)).traits.in_order
 
 in-order : (s : Spec) → is_in_order s ≡ true → (x : Reading) (own : OwnState)
     (worked outs more : Lists) (wait rest : List Row)
     → chunk_rows (more 0) ++ rest ≡ chunk_rows (outs 0) ++ wait → Means x s own worked outs wait
     → Means x s own worked more rest
-in-order (spec.List list) i x own worked outs more wait rest e h = absurd (cc)
-in-order spec.Resize i x own worked outs more wait rest e h = absurd (cc)
-in-order spec.Collect i x own worked outs more wait rest e h = absurd (cc)
-in-order s i x own worked outs more wait rest e h = rw e h
+in-order s i x own worked outs more wait rest e h = grind arith
 
 pub pushes-in-order : (s : Spec) → is_in_order s ≡ true
     → ((growth : Option GrowthForm) (inputs outputs : ℕ)

@@ -41,6 +41,7 @@ pub moves-pull : (x : KernelState) (v w : Picture) (wants : ℕ → Bool) (i : �
     → IsWanting (Some x.spec) x.own.read → MayMake v → IsWantedFull wants v i
     → (input_at v i).chunk ≡ Some c → w ≡ after_pull v i
     → Moves x Nothing (Unworked i c) v w status.Ready
+unfolding input_at output_at in_count out_count
 moves-pull x v w wants i c wanting r full at e =
     let t : TurnsInput v i (emptied (input_at v i)) w =
     rw e (pull-turns v i full.in_range full.holds) in
@@ -49,10 +50,11 @@ moves-pull x v w wants i c wanting r full at e =
     → is_ended (input_at w j).flags ≡ true = λ j. by-place (λ n.
     is_ended (input_at v n).flags ≡ true → is_ended (input_at w n).flags ≡ true) i j
     (λ f. absurd (holds-unended (input_at v i).flags full.holds f))
-    (λ ne f. ap (λ y. is_ended y.flags) (t.others j ne) ∙ f) in
+    (λ ne f. ap (λ y. is_ended y.flags) (t.inputs.others j ne) ∙ f) in
     let closed : (j : ℕ) → (input_at w j).flags.fin_in ≡ (input_at v j).flags.fin_in = λ j.
     by-place (λ n. (input_at w n).flags.fin_in ≡ (input_at v n).flags.fin_in) i j
-    (ap (λ y. y.flags.fin_in) t.here) (λ ne. ap (λ y. y.flags.fin_in) (t.others j ne)) in
+    (ap (λ y. y.flags.fin_in) t.inputs.here)
+    (λ ne. ap (λ y. y.flags.fin_in) (t.inputs.others j ne)) in
     let pulls : PullsOne x Nothing (Unworked i c) v w = record {
       wanting = wanting;
       input = i;
@@ -61,8 +63,8 @@ moves-pull x v w wants i c wanting r full at e =
       holds = full.holds;
       before = refl;
       after = refl;
-      here = ap₂ taken_out at (ap (λ y. y.chunk) t.here);
-      others = λ j ne. none-pulled v w j (ap (λ y. y.chunk) (t.others j ne));
+      here = ap₂ taken_out at (ap (λ y. y.chunk) t.inputs.here);
+      others = λ j ne. none-pulled v w j (ap (λ y. y.chunk) (t.inputs.others j ne));
       unfinished = room-unfinished v r;
     } in
     grind (arith, common_steps)

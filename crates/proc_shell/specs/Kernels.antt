@@ -1,9 +1,7 @@
 -- What the code of a kind promises, over plain data: its own state, a chunk, and the rows that it
 -- makes.
 use Rattle.std.specs.Prelude.{◌++◌, ◌<◌, ◌==◌, ◌∷◌, ◌≡◌, ◌≢◌, ◌⊎◌}
-use Rattle.proc_shell.specs.Prelude.{AreCounts, AreOpen, ArePortsOf, BadPlace, Bool, ColumnType, FileSeen, Files, FitsInput, GrowthForm, HasMade, HasNotedEnd, HasReadEnough, IfSome, IsAtMost, IsBadFile, IsPulled, IsSourceKind, IsWanting, Kind, List, Lists, MakesTypes, MayExpand, None, NotesEnd, Offer, Option, OwnState, PartSpec, Picture, PortFlags, Row, Some, Spec, StandStill, Table, WorkFault, WorkState, [], chunk_rows, cond, false, idle_own, idle_work, in_count, input_at, is_in_finished, length, most_rows, no_lists, out_count, true, ℕ, Reading, IsReadOut, spec_growth}
-use Rattle.query_model.specs.declared.processor_spec.Kind.TheVariants as kind
-use Rattle.query_model.specs.declared.processor_spec.Spec.TheVariants as spec
+use Rattle.proc_shell.specs.Prelude.{AreCounts, AreOpen, ArePortsOf, BadPlace, Bool, ColumnType, FileSeen, Files, FitsInput, GrowthForm, HasMade, HasNotedEnd, HasReadEnough, IfSome, IsAtMost, IsBadFile, IsPulled, IsSourceKind, IsWanting, Kind, List, Lists, MakesTypes, MayExpand, None, NotesEnd, Offer, Option, OwnState, Picture, PortFlags, ReadsList, ReadsPart, Row, Some, Spec, StandStill, Table, WorkFault, WorkState, [], chunk_rows, cond, false, idle_work, in_count, input_at, is_in_finished, kind_of, length, most_rows, no_lists, no_spec, out_count, row_of, true, ℕ, Reading, IsReadOut, spec_growth}
 use Rattle.proc_api.specs.declared.status.WorkFault.TheVariants as fault
 use Rattle.proc_shell.specs.declared.kernel.Offer.TheVariants as offer
 use Rattle.proc_shell.specs.Steps.{AreWantedOver}
@@ -74,31 +72,11 @@ IsKernelOf x y = y ≡ record x { own = y.own }
 abbrev pub IsLeftOf : KernelState → KernelState → Type 0
 IsLeftOf x y = y ≡ record x { own = y.own; stage = record x.stage { bad = y.stage.bad } }
 
--- the kernel of a part, with the rows that it hasn't made yet
-abbrev pub part_kernel : PartSpec → List Row → SourceStage → KernelState
-part_kernel part unmade stage = record {
-  kind = kind.Csv;
-  spec = spec.Csv part;
-  own = record idle_own { unmade = unmade };
-  stage = record stage { paths = []; bad_line = None; grown = false; handed_out = false };
-}
-
--- the kernel of a collector
-abbrev pub gathered_own : List Table → OwnState
-gathered_own chunks = record idle_own { gathered = chunks }
-
-abbrev pub gathering : List Table → (handed_out : Bool) → KernelState
-gathering chunks handed_out = record {
-  kind = kind.Collect;
-  spec = spec.Collect;
-  own = gathered_own chunks;
-  stage = record first_stage { handed_out = handed_out };
-}
-
--- what a box shows as gathered: a collector's chunk that isn't worked yet is among them
+-- What a box shows as gathered. Where it hands its chunks out, the one that isn't worked yet is
+-- among them.
 abbrev pub gathered_with : Spec → (gathered unworked : List Table) → List Table
-gathered_with spec.Collect gathered unworked = gathered ++ unworked
-gathered_with s gathered unworked = gathered
+gathered_with s gathered unworked =
+    cond (row_of (kind_of s)).hands_out (gathered ++ unworked) gathered
 
 -- the state of a box, by its kernel and the chunks that its shell holds
 abbrev pub work_of : KernelState → (source : ℕ) → (unworked made : List Table) → WorkState
@@ -123,7 +101,7 @@ work_of x source unworked made = record idle_work {
 
 abbrev pub unread : Option Files → Reading
 unread files =
-    record { files = files; file = file_in spec.Resize first_stage; unworked = [] }
+    record { files = files; file = file_in no_spec first_stage; unworked = [] }
 
 -- What a kind's kernel has made, whatever its shell holds for it.
 abbrev pub Means : Reading → Spec → OwnState → (worked outs : Lists) → (wait : List Row) → Type 0
@@ -185,8 +163,8 @@ Reads x _ = IsReadOut x.spec (file_in x.spec x.stage)
 -- why no rows are made: memory is wanting, or the next record or the list is bad
 abbrev pub Fails : KernelState → WorkFault → Type 0
 Fails x fault.Memory = Unit {0}
-Fails x (fault.Bad place) = (x.kind ≡ kind.Csv) × (x.stage.bad ≡ Some place)
-Fails x (fault.BadList line) = (x.kind ≡ kind.List) × (x.stage.bad_line ≡ Some line)
+Fails x (fault.Bad place) = ReadsPart x.kind × (x.stage.bad ≡ Some place)
+Fails x (fault.BadList line) = ReadsList x.kind × (x.stage.bad_line ≡ Some line)
 Fails x _ = ⊥
 
 -- a row was made, or no bad record is left, and the list isn't bad

@@ -1,11 +1,6 @@
 -- A source gives the good rows of its part, those before its first bad place.
 use Rattle.std.specs.Prelude.{◌++◌, ◌≡◌}
-use Rattle.proc_api.specs.KindContract.{FileSeen, Files, KindContract, List, None, Option, PartSpec, Row, Some, [], bad_place, chunk_by_chunk, chunk_rows, false, file_bytes, fixed_ports, good_rows, idle_work, part_records, true, ℕ, ⊤}
-
--- the bytes of a part or list: those of its file, where files are told, and else any
-abbrev pub ArePartBytes : Option Files → List ℕ → List ℕ → Type 0
-ArePartBytes None path bytes = ⊤
-ArePartBytes (Some files) path bytes = file_bytes files path ≡ Some bytes
+use Rattle.proc_api.specs.KindContract.{ArePartBytes, FileSeen, Files, KindContract, List, None, Option, PartFile, PartSpec, Row, Some, [], bad_place, chunk_by_chunk, chunk_rows, false, fixed_ports, good_rows, idle_work, part_records, true, ℕ, ⊤}
 
 -- the rows and those not yet made are the good rows of the part, and its bad place is known
 pub record ArePartRows (files : Option Files) (f : FileSeen) (part : PartSpec)
@@ -43,5 +38,5 @@ part_contract part = record {
       { made = w.made; unmade = w.unmade; opened = w.opened; fetched = w.fetched; bad = w.bad };
   made = λ x own worked outs wait.
       ArePartRead x.files x.file part own.unmade (chunk_rows (outs 0) ++ wait);
-  traits = record chunk_by_chunk { part = Some part; read_out = IsPartRead };
+  traits = record chunk_by_chunk { reads = PartFile part; read_out = IsPartRead };
 }

@@ -2,9 +2,7 @@
 use Rattle.std.specs.Prelude.{◌++◌, ◌+◌, ◌<◌, ◌∷◌, ◌≡◌}
 use Rattle.query_model.specs.declared.processor_spec.Spec.TheVariants as spec
 use Rattle.proc_api.specs.Forms.{GrowthForm, SpecForm}
-use Rattle.proc_api.specs.KindContract.{AreCounts, Edge, FileSeen, Files, IfSome, KindContract, List, Lists, Me, New, None, Option, PartSpec, Row, Some, [], bad_line_in, chunk_by_chunk, false, grown_inputs, length, map, moved_work, paths_in, true, unboxed, ℕ}
-use Rattle.proc_api.specs.kinds.Csv.{ArePartBytes}
-use Rattle.proc_api.specs.kinds.Resize.{AreResized}
+use Rattle.proc_api.specs.KindContract.{AreCounts, ArePartBytes, AreResized, Edge, FileSeen, Files, IfSome, KindContract, List, Lists, Me, New, None, Option, PartSpec, PartsFile, Row, Some, [], bad_line_in, chunk_by_chunk, false, grown_inputs, length, map, moved_work, paths_in, true, unboxed, ℕ}
 
 -- the part of a path: the list's own, with that path and with its place, from 1, as part
 abbrev pub listed_part : PartSpec → ℕ → List ℕ → PartSpec
@@ -89,9 +87,10 @@ list_contract list = record {
       IsListPassed x.files x.file list worked outs (wait ++ own.unmade);
   traits = record chunk_by_chunk {
     ungrown = ⊥;
-    part = Some list;
+    reads = PartsFile list;
     grows = IsListGrowth list;
     growth = λ paths. Some (list_growth list paths);
     read_out = IsListReadOut;
+    in_order = false;
   };
 }

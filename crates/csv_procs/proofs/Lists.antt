@@ -1,26 +1,6 @@
--- A list of parts passes on what its sources give. Its inputs are those that it grew.
-use Rattle.proc_shell.proofs.Imports.{AreOpen, ArePortsOf, AreResized, BoxPicture, HadPorts, IsShelled, KeepsRows, KeepsSame, LetsPush, List, Lists, None, NotesEnd, Option, PartSpec, PortFlags, Prepared, Some, Status, ap, append_assoc, arith, chunk_rows, inl, inr, kept_input, kept_inputs, kept_output, kept_outputs, kept_ports, length, list_growth, own_of, refl, rows-append, subst, sym, true, ◌++◌, ◌∙◌, ◌≡◌, KeepsMade}
+-- A list of parts grows by its paths.
+use Rattle.csv_procs.proofs.Imports.{AreOpen, ArePortsOf, BoxPicture, HadPorts, KeepsMade, KeepsRows, KeepsSame, List, Lists, None, NotesEnd, Option, PartSpec, PortFlags, Prepared, Some, Status, inl, inr, kept_input, kept_inputs, kept_output, kept_outputs, kept_ports, length, list_growth, never-true, own_of, refl, subst, sym, true, ◌≡◌}
 use Rattle.query_model.specs.declared.processor_spec.Spec.TheVariants as spec
-use Rattle.proc_shell.proofs.PortMoves.{never-true}
-use Rattle.proc_shell.proofs.Resizing.{resized-pushes}
-
-list-pushes : (list : PartSpec) → LetsPush (spec.List list)
-list-pushes list x own worked outs more growth m n o pushed rest ports (inr none) others h =
-    absurd (let one = ports.1 in omega (arith, one, none))
-list-pushes list x own worked outs more growth m n o pushed rest ports (inl at) others h = record {
-  knows = h.knows;
-  resized = resized-pushes worked outs more o pushed (chunk_rows rest ++ own.unmade) at.1 at.2
-      others
-      (subst (AreResized worked outs) (ap (λ l. l ++ own.unmade) (rows-append pushed rest)
-      ∙ append_assoc (chunk_rows pushed) (chunk_rows rest) own.unmade) h.resized);
-}
-
-pub list_shelled : (list : PartSpec) → IsShelled (spec.List list)
-list_shelled list = record {
-  still = λ growth kept m n had h position. inl (h.0 ∙ sym had.0, h.1 ∙ sym had.1);
-  enough_one = λ ins enough growth m n h. absurd enough;
-  lets_push = list-pushes list;
-}
 
 -- A list that asked to grow keeps what it kept once it has grown by its paths.
 module _ (list : PartSpec) (p : BoxPicture) (spec' : p.spec ≡ Some (spec.List list))
