@@ -1,5 +1,5 @@
 -- Refused queries, by computation.
-use Rattle.query_model.proofs.Imports.{Add, Bool, ColumnRef, ExprOf, IsChecked, Item, Join, List, Listed, Named, None, OrderKey, Query, Refusal, Schema, Some, Star, Sub, [], arith, codes, cond_fits, cond_operands, expr_columns, expr_typing, false, refl, refusal_of, replicate, true, ℕ, ◌∷◌, ◌≡◌, sides_of}
+use Rattle.query_model.proofs.Imports.{Add, Bool, ColumnRef, ExprOf, IsChecked, Item, Join, List, Listed, Named, None, OrderKey, Query, Refusal, Schema, Some, Star, Sub, [], arith, codes, cond_fits, cond_operands, expr_columns, expr_typing, false, refl, refusal_of, replicate, true, type_of, ℕ, ◌∷◌, ◌≡◌, sides_of}
 use Rattle.std.specs.Fmt.{digits}
 use Rattle.chunk_data.specs.declared.typed_value.ColumnType.TheVariants as column
 use Rattle.query_model.specs.declared.query.ExprOf.TheVariants as expr
@@ -111,5 +111,5 @@ refusals p q =
 
 -- SELECT a FROM t: its checked query
 pub checked_a : IsChecked (from_t column_a) schemas select_a
-unfolding refusal_of expr_columns cond_operands sides_of expr_typing cond_fits digits
+unfolding cond_operands sides_of digits type_of
 checked_a = search (arith)

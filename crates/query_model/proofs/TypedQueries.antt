@@ -1,6 +1,5 @@
 -- A query whose types fit has typed items and a typed condition, once its names have places.
-use Rattle.query_model.proofs.Imports.{AggCall, AggOp, All, All-head, All-nil, AreColumnsFrom, AreNumbersAlike, ArithOp, BothOrNone, CanHold, ColumnRef, ColumnType, CompareOp, Cond, CondOf, Count, Expr, ExprOf, FromColumn, HasItsArgument, IsGroupedOperand, IsItem, IsPlaced, IsPlacedCall, IsPlacedCond, IsTyped, IsTypedCall, IsTypedCond, IsTypedFilter, IsTypedOperand, OperandTyping, List, None, Operand, Option, Some, [], agg_typing, and_parts, append-nil, arith, arith_typing, arith_type, bare_columns, call_typing, call_type, calls_of, comparable, cond_fits, cond_operands, expr_columns, expr_typing, false, fits_where, flat_map, flat_map-append, is_some, is_text, is_typed, known_typing, length, means, meant_type, not, not-true, operand_typing, operand_type, operands_of, place_in, place_of, plain, number_type, plain_of, refl, result_type, same_plain-is, same_type, sym, takes_argument, true, typed, types_of, unfit, ℕ, ℤ, ⊤, ◌&&◌, ◌++◌, ◌+◌, ◌∙◌, ◌∷◌, ◌≡◌, ◌≤◌, argument_form, cond_form, formula, map, map-append, operand_form, option_map, sides_in, sides_of}
-use Rattle.query_model.specs.Names.{type_of}
+use Rattle.query_model.proofs.Imports.{AggCall, AggOp, All, All-head, All-nil, AreColumnsFrom, AreNumbersAlike, ArithOp, BothOrNone, CanHold, ColumnRef, ColumnType, CompareOp, Cond, CondOf, Count, Expr, ExprOf, FromColumn, HasItsArgument, IsGroupedOperand, IsItem, IsPlaced, IsPlacedCall, IsPlacedCond, IsTyped, IsTypedCall, IsTypedCond, IsTypedFilter, IsTypedOperand, OperandTyping, List, None, Operand, Option, Some, [], agg_typing, and_parts, append-nil, arith, arith_typing, arith_type, bare_columns, call_typing, call_type, calls_of, comparable, cond_fits, cond_operands, expr_columns, expr_typing, false, fits_where, flat_map, flat_map-append, is_some, is_text, is_typed, known_typing, length, means, meant_type, not, not-true, operand_typing, operand_type, operands_of, place_in, place_of, plain, number_type, plain_of, refl, result_type, same_plain-is, same_type, sym, takes_argument, true, typed, types_of, unfit, type_of, ℕ, ℤ, ⊤, ◌&&◌, ◌++◌, ◌+◌, ◌∙◌, ◌∷◌, ◌≡◌, ◌≤◌, argument_form, cond_form, formula, map, map-append, operand_form, option_map, sides_in, sides_of}
 use Rattle.query_model.specs.declared.query.ExprOf.TheVariants as expr
 use Rattle.query_model.specs.declared.query.Operand.TheVariants as operand
 use Rattle.query_model.specs.declared.query.CondOf.TheVariants as cond'

@@ -1,6 +1,6 @@
 -- Worked queries from their names to their answers: grouping, HAVING, aliases, keys, order, limit
 -- and join.
-use Rattle.query_model.proofs.Imports.{AggCall, Checked, ColumnRef, ColumnType, Count, Database, Grouped, IsAnswer, IsChecked, List, Max, Mul, None, Query, Row, Schema, Some, Sum, UInt, [], answer_text, arith, codes, cond_fits, cond_operands, enough, expr_columns, expr_typing, false, lit<, map, parts_rows, refl, refusal_of, true, ℕ, ◌++◌, ◌∷◌, ◌≡◌, sides_of}
+use Rattle.query_model.proofs.Imports.{AggCall, Checked, ColumnRef, ColumnType, Count, Database, Grouped, IsAnswer, IsChecked, List, Max, Mul, None, Query, Row, Schema, Some, Sum, UInt, [], answer_text, arith, codes, cond_fits, cond_operands, enough, expr_columns, expr_typing, false, lit<, map, parts_rows, refl, refusal_of, true, type_of, ℕ, ◌++◌, ◌∷◌, ◌≡◌, sides_of}
 use Rattle.std.specs.Fmt.{digits}
 use Rattle.chunk_data.specs.declared.typed_value.ColumnType.TheVariants as column
 use Rattle.query_model.specs.declared.query.CompareOp.TheVariants as compare
@@ -103,7 +103,7 @@ join_is_accepted = refl
 -- a pair that is written the other way round means the same
 pub join_is_checked : IsChecked (join_on left_k right_k) left_and_right checked_join
     × IsChecked (join_on right_k left_k) left_and_right checked_join
-unfolding expr_typing digits
+unfolding digits type_of
 join_is_checked = search (arith)
 
 -- SELECT shop, count() AS n, sum(qty * price) AS total FROM sales WHERE price > 50 GROUP BY shop
@@ -165,7 +165,7 @@ module _ (p q : Place) where
   totals_are_accepted = refl
 
   pub totals_are_checked : IsChecked totals_query sales totals
-  unfolding expr_typing cond_operands digits
+  unfolding cond_operands digits type_of
   totals_are_checked = search (arith)
 
   abbrev pub sales_types : List ColumnType

@@ -1,12 +1,11 @@
 -- The checked query of a query: places where the query has names. By cases on both, since an
 -- expression lies in boxes of its own.
 use Rattle.std.specs.Prelude.{if◌then◌else◌, ◌++◌, ◌+◌, ◌==◌, ◌∷◌, ◌≡◌}
-use Rattle.query_model.specs.Prelude.{AggCall, Bool, Checked, CheckedJoin, ColumnRef, ColumnType, CondOf, ExprOf, Grouping, Item, ItemKind, Items, Join, KeyPair, List, Listed, NamePair, None, Operand, Option, OrderKey, Query, Schema, Shape, Some, Star, TableRef, TableUse, [], bytes_eq, false, flat_map, length, map, true, ℕ}
+use Rattle.query_model.specs.Prelude.{AggCall, Bool, Checked, CheckedJoin, ColumnRef, CondOf, ExprOf, Grouping, Item, ItemKind, Items, Join, KeyPair, List, Listed, NamePair, None, Operand, Option, OrderKey, Query, Schema, Shape, Some, Star, TableRef, TableUse, [], bytes_eq, false, flat_map, length, map, true, ℕ}
 use Rattle.query_model.specs.Expressions.{Expr, Cond}
-use Rattle.query_model.specs.Refusals.{FromColumn, OperandTyping, typed, means, same_column, table_columns, from_columns, joins, is_grouped, output_names, item_typing, types_of}
-use Rattle.query_model.specs.Trees.{ItemTree, Selection, query_tree, selection}
-use Rattle.query_model.specs.Trees as tree
-use Rattle.chunk_data.specs.declared.typed_value.ColumnType.TheVariants as column
+use Rattle.query_model.specs.Refusals.{FromColumn, means, same_column, table_columns, from_columns, joins, is_grouped, output_names, types_of}
+use Rattle.query_model.specs.Trees.{query_tree, selection}
+use Rattle.query_model.specs.Typing.{shape_types}
 use Rattle.query_model.specs.declared.query.ExprOf.TheVariants as expr
 use Rattle.query_model.specs.declared.query.Operand.TheVariants as operand
 use Rattle.query_model.specs.declared.query.CondOf.TheVariants as condition
@@ -164,15 +163,6 @@ IsShape q columns false (shape.Plain es) =
 IsShape q columns true (shape.Grouped g) = IsGrouping q columns g
 IsShape q columns _ _ = ⊥
 
-abbrev pub known_type : OperandTyping → ColumnType
-known_type (typed t) = t
-known_type _ = column.Text
-
-abbrev pub output_types : Selection → List FromColumn → List ColumnType
-output_types tree.star columns = types_of columns
-output_types (tree.listed items) columns =
-    map (λ (i : ItemTree). known_type (item_typing columns i.what)) items
-
 -- the checked query of a query that no condition refuses
 pub record IsChecked (q : Query) (schemas : List Schema) (c : Checked) : Type 0 where
   pub from : c.from ≡ use_of schemas q.from
@@ -181,7 +171,7 @@ pub record IsChecked (q : Query) (schemas : List Schema) (c : Checked) : Type 0 
       (λ n. place_of (means n) (from_columns (query_tree q) schemas)) 0) q.filter c.filter
   pub shape : IsShape q (from_columns (query_tree q) schemas) (is_grouped (query_tree q)) c.shape
   pub names : c.names ≡ output_names (selection q.items) (from_columns (query_tree q) schemas)
-  pub types : c.types ≡ output_types (selection q.items) (from_columns (query_tree q) schemas)
+  pub types : c.types ≡ shape_types c.shape (types_of (from_columns (query_tree q) schemas))
   pub order : c.order ≡ map (λ (key : OrderKey). record {
     column = place_of (bytes_eq key.name)
         (output_names (selection q.items) (from_columns (query_tree q) schemas));

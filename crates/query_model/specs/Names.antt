@@ -3,7 +3,7 @@
 pub use Rattle.chunk_data.specs.Values.{is_text, same_type, type_at}
 pub use Rattle.query_model.specs.Analysis.{HasItsArgument, HasNoCall, IsAnalysable, IsDueRefusal, IsNoCall, IsTypedFilter, IsTypedGrouping, IsTypedQuery, IsTypedShape, MayBeGroupOperand, from_types, takes_argument}
 pub use Rattle.query_model.specs.Answers.{IsAnswer, IsOrderedAnswer, enough, item_row, limited, output_rows, selected_rows}
-pub use Rattle.query_model.specs.Checks.{AreColumnsFrom, ArePicks, ArePlainItems, BothOrNone, EachWith, IsChecked, IsCheckedJoin, IsGroupedOperand, IsGrouping, IsPick, IsPlaced, IsPlacedCall, IsPlacedCond, IsPlacedItem, IsShape, calls_of, item_calls, known_type, listed, operands_of, output_types, pair_of, place_of, query_calls, use_of}
+pub use Rattle.query_model.specs.Checks.{AreColumnsFrom, ArePicks, ArePlainItems, BothOrNone, EachWith, IsChecked, IsCheckedJoin, IsGroupedOperand, IsGrouping, IsPick, IsPlaced, IsPlacedCall, IsPlacedCond, IsPlacedItem, IsShape, calls_of, item_calls, listed, operands_of, pair_of, place_of, query_calls, use_of}
 pub use Rattle.query_model.specs.Database.{AllPartsValid, Files, IsValidPart, IsValidUsed, UsedPart, bad_line_in, bad_place_in, column_types, database, declared_table, file_bytes, join_use, numbered_parts, part_bad_place, part_paths, part_rows, parts_declared, parts_used, rows_in, used_parts, used_tables}
 pub use Rattle.query_model.specs.Expressions.{Cond, Expr, arith_type, arith_value, compared, exact_result, gives_uint, holds, is_uint_column, number_of, number_type, passes, plain_value, result_type, rows_where}
 pub use Rattle.query_model.specs.Fields.{both_spelled, numeral_below, spelled_int, spelled_value}
@@ -21,7 +21,7 @@ pub use Rattle.query_model.specs.Refusals.{FromColumn, agg_typing, argument_colu
 pub use Rattle.query_model.specs.Sources.{Database, agree, filtered_rows, joined_rows, joined_table, numbers, source_rows, source_table, used_table}
 pub use Rattle.query_model.specs.Texts.{answer_text, doubled, quoted, row_text, rows_text, separator, value_text}
 pub use Rattle.query_model.specs.Trees.{ItemTree, QueryTree, item_tree, item_what, items_in, query_tree, selection}
-pub use Rattle.query_model.specs.Typing.{AreAlike, AreNumbersAlike, CanHold, can_hold, IsItem, IsTyped, IsTypedCall, IsTypedCond, IsTypedOperand, group_types, operand_type, plain_of}
+pub use Rattle.query_model.specs.Typing.{AreAlike, AreNumbersAlike, CanHold, can_hold, IsItem, IsTyped, IsTypedCall, IsTypedCond, IsTypedOperand, group_types, operand_type, plain_of, shape_types}
 unfoldable pub use Rattle.query_model.specs.Checks.{cond_operands}
 unfoldable pub use Rattle.query_model.specs.Expressions.{operand_value, truth_of, type_of, value_of}
 unfoldable pub use Rattle.query_model.specs.Fields.{spelled_row}

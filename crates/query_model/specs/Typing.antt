@@ -1,6 +1,6 @@
 -- Which expressions and conditions may be evaluated over columns of given types.
 use Rattle.std.specs.Prelude.{◌++◌, ◌<◌, ◌^◌, ◌≡◌}
-use Rattle.query_model.specs.Prelude.{AggCall, AggOp, Bool, ColumnType, Count, Grouping, List, Max, Min, None, Operand, Option, Some, Sum, false, length, map, nat_lt, negsuc, pos, true, ℕ, ℤ}
+use Rattle.query_model.specs.Prelude.{AggCall, AggOp, Bool, ColumnType, Count, Grouped, Grouping, List, Max, Min, None, Operand, Option, Plain, Shape, Some, Sum, false, length, map, nat_lt, negsuc, pos, true, ℕ, ℤ}
 use Rattle.chunk_data.specs.Values.{is_text, plain_type, type_at}
 use Rattle.chunk_data.specs.declared.typed_value.ColumnType.TheVariants as column
 use Rattle.chunk_data.specs.declared.typed_value.PlainType.{PlainType}
@@ -94,3 +94,8 @@ abbrev pub group_types : Grouping → List ColumnType → List ColumnType
 group_types g types =
     map (type_at types) g.keys
     ++ map (λ (call : AggCall ℕ). call_type call.op call.arg types) g.calls
+
+-- the types of the rows that a shape makes of rows of these types
+abbrev pub shape_types : Shape → List ColumnType → List ColumnType
+shape_types (Plain items) types = map (λ e. type_of e types) items
+shape_types (Grouped g) types = map (type_at (group_types g types)) g.picks

@@ -15,11 +15,12 @@ mod refusals;
 use crate::analysis::columns::{FromColumn, push_joined, table_columns_of};
 use crate::analysis::join_keys::place_join;
 use crate::analysis::ordering::place_order;
-use crate::analysis::outputs::{made_shape, names_of, types_of_items};
+use crate::analysis::outputs::{column_types, made_shape, names_of};
 use crate::analysis::placing::{Scope, place_filter, table_use};
 use crate::analysis::refusals::first_refusal;
 use crate::checked::{Checked, Cond};
 use crate::query::{ColumnRef, CondOf, Query, Refusal, Schema};
+use crate::typing::shape_types;
 use chunk_data::{Bytes, List, Memory};
 use std::alloc::Global;
 
@@ -54,12 +55,13 @@ fn checked_query(
     ensures typed { IfOk result (IsTypedQuery (from_types query.now tables.now)) }
 {
     // What is dropped by cases is made last.
-    let types = types_of_items(alloc, &query.items, columns)?;
+    let from_types = column_types(alloc, columns)?;
     let order = place_order(alloc, query.order.as_slice(), names.as_slice())?;
     let from = table_use(&query.from, tables)?;
     let join = place_join(alloc, &query.join, tables, left, right)?;
     let filter = place_where(alloc, &query.filter, columns)?;
     let shape = made_shape(alloc, query, columns)?;
+    let types = shape_types(alloc, &shape, from_types.as_slice())?;
     Ok(Checked {
         from,
         join,

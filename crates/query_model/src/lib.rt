@@ -10,3 +10,4 @@ pub mod places;
 pub mod plain;
 pub mod processor_spec;
 pub mod query;
+pub mod typing;

@@ -1,11 +1,10 @@
-// The outputs of a query: their names and types, and what is made of rows.
+// The outputs of a query: their names, and what is made of rows.
 ghost use Rattle.std.specs.Prelude.{◌≡◌, ◌++◌, ◌≤◌, codes, decimal, length, map, true, false, IfOk};
 ghost use Rattle.std.specs.List.{All};
-ghost use Rattle.query_model.specs.Names.{FromColumn as Column, plain_name as name_of_kind, name_or, item_names as names_of_items, output_names, item_typing as typing_of_item, is_grouped as has_groups, ItemTree, item_tree, item_what, query_tree, selection, listed, AreColumnsFrom, ArePlainItems, IsShape, output_types, known_type as type_known, types_of, place_in, as_typing, is_key_of, CanBePicked, HasNoCall};
+ghost use Rattle.query_model.specs.Names.{FromColumn as Column, plain_name as name_of_kind, name_or, item_names as names_of_items, output_names, is_grouped as has_groups, ItemTree, item_tree, item_what, query_tree, selection, listed, AreColumnsFrom, ArePlainItems, IsShape, types_of, place_in, is_key_of, CanBePicked, HasNoCall};
 
 use crate::analysis::columns::FromColumn;
 use crate::analysis::groups::{is_grouped, made_groups};
-use crate::analysis::operand_types::{ExprTyping, item_typing};
 use crate::analysis::placing::place_items;
 use crate::checked::{Expr, Shape};
 use crate::query::{ColumnRef, ExprOf, Item, ItemKind, Items, Query};
@@ -89,39 +88,6 @@ pub(crate) fn names_of(
     }
 }
 
-/// The type of an item that has one.
-fn known_type(kind: ExprTyping) -> ColumnType
-    ensures { result ≡ type_known (as_typing kind) }
-{
-    match kind {
-        ExprTyping::Typed(t) => t,
-        ExprTyping::Plain(_) => ColumnType::Text,
-        ExprTyping::Unfit => ColumnType::Text,
-    }
-}
-
-fn item_type(item: &Item, columns: &[FromColumn]) -> ColumnType
-    ensures { result ≡ type_known (typing_of_item columns.now (item_what item.now.what)) }
-{
-    known_type(item_typing(item, columns))
-}
-
-fn item_types(
-    alloc: Global,
-    items: &[Item],
-    columns: &[FromColumn],
-) -> Result<List<ColumnType>, Memory>
-    ensures { IfOk result (λ types. types
-        ≡ map (λ (i : ItemTree). type_known (typing_of_item columns.now i.what))
-        (map item_tree items.now)) }
-{
-    let mut types = Vec::with_capacity(alloc, items.len())?;
-    for item in items {
-        types.push(item_type(item, columns))?;
-    }
-    Ok(List::from_vec(types))
-}
-
 fn all_columns(alloc: Global, columns: &[FromColumn]) -> Result<List<Expr>, Memory>
     requires { length columns.now ≤ 64 }
     ensures { IfOk result (AreColumnsFrom 0 columns.now) }
@@ -133,7 +99,11 @@ fn all_columns(alloc: Global, columns: &[FromColumn]) -> Result<List<Expr>, Memo
     Ok(List::from_vec(exprs))
 }
 
-fn column_types(alloc: Global, columns: &[FromColumn]) -> Result<List<ColumnType>, Memory>
+/// The types of the columns.
+pub(crate) fn column_types(
+    alloc: Global,
+    columns: &[FromColumn],
+) -> Result<List<ColumnType>, Memory>
     ensures { IfOk result (λ types. types ≡ types_of columns.now) }
 {
     let mut types = Vec::with_capacity(alloc, columns.len())?;
@@ -141,20 +111,6 @@ fn column_types(alloc: Global, columns: &[FromColumn]) -> Result<List<ColumnType
         types.push(column.kind())?;
     }
     Ok(List::from_vec(types))
-}
-
-/// The types of a query's items.
-pub(crate) fn types_of_items(
-    alloc: Global,
-    items: &Items,
-    columns: &[FromColumn],
-) -> Result<List<ColumnType>, Memory>
-    ensures { IfOk result (λ types. types ≡ output_types (selection items.now) columns.now) }
-{
-    match items {
-        Items::Star => column_types(alloc, columns),
-        Items::Listed(items) => item_types(alloc, items.as_slice(), columns),
-    }
 }
 
 /// The items of a query without groups, with the places of their columns.

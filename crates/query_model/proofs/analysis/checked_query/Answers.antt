@@ -47,7 +47,8 @@ returns-clause-checked c = record {
   filter = rw c.requires.columns at c.in_ok-filter.ensures;
   shape = rw c.requires.columns at c.in_ok-shape.ensures;
   names = rw c.requires.columns at c.requires.names;
-  types = rw c.requires.columns at c.in_ok-types.ensures;
+  types = c.in_ok-types.ensures
+      ∙ rw (c.as_slice-3.ensures, c.in_ok-from_types.ensures, c.requires.columns) refl;
   order = c.in_ok-order.ensures
       ∙ rw (c.as_slice.ensures, c.as_slice-2.ensures, c.requires.names, c.requires.columns) refl;
   limit = refl;
