@@ -3,6 +3,7 @@ pub use Rattle.chunk_data.proofs.Laws.{same_plain-is}
 pub use Rattle.chunk_data.proofs.Places.{count_by-none, count_by-once}
 pub use Rattle.chunk_data.specs.Values.{type_at}
 pub use Rattle.exec_laws.proofs.BirthLaws.{grows-lawfully}
+pub use Rattle.exec_laws.proofs.Growing.{grew-list}
 pub use Rattle.exec_laws.proofs.Imports.{few-inputs, few-outputs, output-below-count}
 pub use Rattle.exec_laws.specs.Births.{AreAllBorn, Birth, HasForm, IsBirth, all_places, births_of, born_wires, form_at, growth_list, growths_of, kept_growths}
 pub use Rattle.exec_laws.specs.Growths.{new_wires}
@@ -12,18 +13,18 @@ pub use Rattle.plan_laws.specs.Boxes.{reserved_nodes}
 pub use Rattle.plan_laws.specs.Building.{draft_of}
 pub use Rattle.plan_laws.specs.Counts.{Count, count_over, each_input, each_kept, kept_for, of_kind, sources_count}
 pub use Rattle.plan_laws.specs.Drafts.{AllFitDraft, AllFitEnds, Draft, FitsDraft, FitsEnds, IsDraft, IsDraftGraph, consumer_of, given_by, no_draft, ports_from, ports_of, producer_of, ranks_after, ranks_with, replaced, run_of, taken_by, wires_to, with_node, with_nodes}
-pub use Rattle.plan_laws.specs.Ended.{BoxGives, HasEnded, HasFullCount, HasGrownByLists, HasListed, HasPulled, IsKnown, IsListedNode, IsOrdinary, IsReady, IsStep, KeepsContract, KindGives, KnownPorts, SourceHas, chunk_types, in_stream, is_valid_list, list_in, listed_sources, out_stream, part_of, parts_of_files, pulled_since, reading_in, sources_of_files, stream_pulled_at, stream_pushed_at, used_part}
+pub use Rattle.plan_laws.specs.Ended.{BoxGives, FileHas, HasEnded, HasFullCount, HasGrownByLists, HasListed, HasPulled, IsKnown, IsListedNode, IsOrdinary, IsReady, IsStep, KeepsContract, KindGives, KnownPorts, SourceHas, chunk_types, in_stream, is_valid_list, list_in, listed_sources, out_stream, part_of, parts_of_files, pulled_since, reading_in, sources_of_files, stream_pulled_at, stream_pushed_at, used_part}
 pub use Rattle.plan_laws.specs.Gives.{GivesFront, GivesHeld, GivesJoined, GivesLimited, GivesListed, GivesMerged, GivesResized, GivesSource, GivesThrough, HoldsBack, IsMergeOf}
 pub use Rattle.plan_laws.specs.Grown.{GrowsLawfully}
 pub use Rattle.plan_laws.specs.Meaning.{Completes, IsFront, MeansNode, NodesMean, meant_by}
-pub use Rattle.plan_laws.specs.Plans.{FewJoined, FewSources, HasEnoughRows, IsCut, IsPlan, IsSmall, IsTold, JoinsSources, PlanAnswers, PlanJoin, PlanShape, SelectPlan, StopsEarly, all_valid, body_nodes, collect_node, collector, filter_nodes, filter_pulls, gather_nodes, gather_pulls, grouped, grouped_of, join_pulls, join_step, join_valid, joined_from, lane_steps, limit_nodes, made_pulls, made_rows, merge_step, needed_valid, plain, plan_count, plan_keys, plan_nodes, plan_pulls, plan_rows, plan_valid, pulls, pulls_from, read_count, read_rows, read_steps, read_valid, select_steps, shape_count, shape_nodes, shape_pulls, shape_rows, sort_nodes, sort_pulls, sort_step, sources_rows, valid_from}
-pub use Rattle.plan_laws.specs.Queries.{HasCalls, IsCall, IsPlanOf, call_arguments, column_items, group_spec, shape_of, shape_types, state_call}
+pub use Rattle.plan_laws.specs.Plans.{FewJoined, FewSources, HasEnoughRows, IsCut, IsPlan, IsSmall, IsTold, JoinsSources, PlanAnswers, PlanJoin, PlanShape, SelectPlan, StopsEarly, all_valid, body_nodes, collect_node, collector, collector_kind, filter_nodes, filter_pulls, gather_nodes, gather_pulls, grouped, grouped_of, join_pulls, join_step, join_valid, joined_from, lane_steps, limit_nodes, made_pulls, made_rows, merge_step, needed_valid, plain, plan_count, plan_keys, plan_nodes, plan_pulls, plan_rows, plan_valid, pulls, pulls_from, read_count, read_rows, read_steps, read_valid, resize_node, select_steps, shape_count, shape_nodes, shape_pulls, shape_rows, sort_nodes, sort_pulls, sort_step, sources_rows, valid_from}
+pub use Rattle.plan_laws.specs.Queries.{HasCalls, IsCall, IsPlanOf, call_arguments, column_items, group_spec, shape_of, state_call}
 pub use Rattle.plan_laws.specs.Refusals.{crowded, crowded_decl, first_crowded, path_count}
 pub use Rattle.plan_laws.specs.Roles.{Gives, IsAmong, IsSourceSpec, MakesRows, MakesType, Types, is_certain, is_needed, is_valid_source, source_list}
 pub use Rattle.plan_laws.specs.Runs.{AllInputsDone, AllPull, EachGives, HasRun, IsOpenNode, PlanRuns, Pulls, RunsNode, if_kind, pulled_by_nodes, pulled_rows}
 pub use Rattle.plan_laws.specs.Same.{NodeForm, forms, node_form}
 pub use Rattle.plan_laws.specs.Shapes.{IsSoundPlan, LaysDown, boxes_needed, boxes_reserved, boxes_taken, kept_at, plan_ranks, reserves_from}
-pub use Rattle.plan_laws.specs.Steps.{SourceReading, declared_sources, join_of, join_spec, order_of, ordered_plan, part_sources, part_spec, path_sources, select_plan, source_types, table_reading, table_sources, types_declared, used_types}
+pub use Rattle.plan_laws.specs.Steps.{SourceReading, declared_sources, join_of, join_spec, list_kind, list_source, order_of, ordered_plan, part_source, part_sources, part_spec, path_sources, select_plan, source_types, table_reading, table_sources, types_declared, used_types}
 pub use Rattle.plan_laws.specs.Streams.{Flow, ManyToOne, OneToOne, RowsOfSources, Source, SourceRows, Stream, TwoToOne, all_certain, all_done, any_done, any_needs, flow_rows, flows_of, rows_together, stream_rows}
 pub use Rattle.plan_laws.specs.Types.{EachGivesIf, FitFrom, GivesIf, HasTypes, TypesFit, TypesNode, TypesTo, pulled_types}
 pub use Rattle.plan_laws.specs.declared.nodes.DraftNode.{DraftNode}
@@ -37,9 +38,9 @@ pub use Rattle.proc_api.proofs.Keeping.{KeepsWorked, rows-append, worked-where-f
 pub use Rattle.proc_api.proofs.KeptFlags.{may-be-input, past-open}
 pub use Rattle.proc_api.proofs.Orders.{InOrder, every-append, every-contains, every-front, every-none, every-permuted, every-turned, every-weaker, order-cross, order-from_sorted, order-front, order-joined, ordered, ordered-none, ordered-order, ordered-same, rows-ordered, sorted-from_order}
 pub use Rattle.proc_api.specs.KindContract.{grown_inputs, is_me}
-pub use Rattle.proc_api.specs.Names.{AllFit, AreInputsSorted, AreKeyPairs, AreMerged, ArePortsOf, AreResized, BoxPicture, FitsGroups, FitsInput, FitsOrder, GrowthForm, HasReadEnough, IsBeforeNone, IsKeyPair, IsListGrowth, IsOver, IsPulled, IsReadUp, IsSortOf, IsWorkOf, Keeps, KeepsRows, Lists, MakesTypes, MayGrow, NotesEnd, SpecForm, SumsNoTexts, WorkState, argument_types, calls_from, chunk_rows, head_at, head_rows, input_count, is_count, is_of, kept_output, kept_outputs, list_growth, listed_edges, listed_part, listed_parts, merged_rows, no_table, no_wire, output_count, own_of, partial_rows, partial_types, same_kind, spec_form, spec_group_types, sums_texts, unboxed, unworked_at}
+pub use Rattle.proc_api.specs.Names.{AllFit, AreInputsSorted, AreKeyPairs, AreMerged, ArePortsOf, ArePortsOnce, AreResized, BoxPicture, FitsGroups, FitsInput, FitsOrder, GrowthForm, HasReadEnough, IsBeforeNone, IsKeyPair, IsListGrowth, IsOver, IsPulled, IsReadUp, IsSortOf, IsWorkOf, Keeps, KeepsRows, Lists, MakesTypes, MayGrow, NotesEnd, SpecForm, SumsNoTexts, WorkState, argument_types, calls_from, chunk_rows, head_at, head_rows, input_count, is_count, is_of, kept_output, kept_outputs, list_growth, listed_edges, listed_part, listed_parts, merged_rows, no_table, no_wire, output_count, own_of, partial_rows, partial_types, same_kind, spec_form, spec_group_types, sums_texts, unboxed, unworked_at, FileRead, file_read, grown_kind, row_of}
 pub use Rattle.proc_api.specs.Prelude.{AggCall, AggOp, ExprOf, GroupSpec, JoinSpec, KeyPair, Kind, Operand, PartSpec, SortSpec, Span, Spec, StateCall, Wire, formula}
-pub use Rattle.proc_api.specs.SpecContracts.{IsNoLimit, IsUngrown}
+pub use Rattle.proc_api.specs.SpecContracts.{IsNoLimit, IsUngrown, contract_of}
 pub use Rattle.proc_api.specs.declared.growth.Edge.{Edge}
 pub use Rattle.query_model.proofs.Accepted.{none_found, unrefused_is_accepted}
 pub use Rattle.query_model.proofs.AnswerLaws.{joined_rows-append}
@@ -53,7 +54,7 @@ pub use Rattle.query_model.specs.Answers.{grouped_rows}
 pub use Rattle.query_model.specs.Database.{IsListDeclared, IsListUsed, IsValidList, bad_line_in, column_types, part_paths, paths_in}
 pub use Rattle.query_model.specs.Formulas.{cond_form, operand_form}
 pub use Rattle.query_model.specs.ListFiles.{is_path}
-pub use Rattle.query_model.specs.Names.{AreColumnsFrom, ArePicks, ArePlainItems, BothOrNone, Cond, Database, EachWith, Expr, Files, FromColumn, IsAnalysable, IsAnswer, IsChecked, IsCheckedJoin, IsItem, IsShape, IsTypedCall, IsTypedCond, IsTypedFilter, IsTypedQuery, IsTypedShape, IsValidPart, IsValidUsed, UsedPart, database, declared_table, enough, file_bytes, filtered_rows, first_name, flow, from_columns, from_types, group_types, groups, groups_or_default, groups_tested, holds, if_declared, if_grouped, if_ordered, if_plain, is_grouped, is_join_pair, item_calls, item_row, join_columns, join_tables, join_use, joined_rows, joined_table, kind_of, limited, list_sources_need, listed, meant_type, numbered_parts, numbers, output_names, output_rows, pair_of, pairs_fit, part_rows, part_sources_need, parts_declared, parts_used, place_in, place_of, query_boxes, rows_joined, rows_tested, rows_where, selected_rows, sort_key, source_rows, source_table, star_name, table_columns, table_need, types_of, use_of, used_table, used_tables, query_tree, selection}
+pub use Rattle.query_model.specs.Names.{AreColumnsFrom, ArePicks, ArePlainItems, BothOrNone, Cond, Database, EachWith, Expr, Files, FromColumn, IsAnalysable, IsAnswer, IsChecked, IsCheckedJoin, IsItem, IsShape, IsTypedCall, IsTypedCond, IsTypedFilter, IsTypedQuery, IsTypedShape, IsValidPart, IsValidUsed, UsedPart, database, declared_table, enough, file_bytes, filtered_rows, first_name, flow, from_columns, from_types, group_types, groups, groups_or_default, groups_tested, holds, if_declared, if_grouped, if_ordered, if_plain, is_grouped, is_join_pair, item_calls, item_row, join_columns, join_tables, join_use, joined_rows, joined_table, kind_of, limited, list_sources_need, listed, meant_type, numbered_parts, numbers, output_names, output_rows, pair_of, pairs_fit, part_rows, part_sources_need, parts_declared, parts_used, place_in, place_of, query_boxes, rows_joined, rows_tested, rows_where, selected_rows, shape_types, sort_key, source_rows, source_table, star_name, table_columns, table_need, types_of, use_of, used_table, used_tables, query_tree, selection}
 pub use Rattle.query_model.specs.Typing.{IsTypedArgument}
 pub use Rattle.query_model.specs.declared.checked.Checked.{Checked}
 pub use Rattle.query_model.specs.declared.checked.CheckedJoin.{CheckedJoin}

@@ -1,9 +1,8 @@
 -- What the nodes of a plan count together, where each counts by its spec and how many ends it
 -- takes.
 use Rattle.std.specs.Prelude.{List, cond, sum_by, ℕ, ◌+◌}
-use Rattle.plan_laws.specs.Prelude.{Kind, Spec, kind_of, same_kind}
+use Rattle.plan_laws.specs.Prelude.{Kind, Spec, kind_of, row_of, same_kind}
 use Rattle.plan_laws.specs.declared.nodes.DraftNode.{DraftNode}
-use Rattle.query_model.specs.declared.processor_spec.Kind.TheVariants as kind
 
 -- what a node counts, by its spec and its number of inputs
 abbrev pub Count : Type 0
@@ -14,7 +13,7 @@ count_over w nodes = sum_by (λ (n : DraftNode). w n.spec n.takes) nodes
 
 -- a source for each of the parts that a list may name is kept for it
 abbrev pub kept_for : Spec → ℕ
-kept_for s = cond (same_kind (kind_of s) kind.List) 32 0
+kept_for s = cond (row_of (kind_of s)).reads_list 32 0
 
 -- 1 for each node, and 1 for each that is kept for it
 abbrev pub each_kept : Count

@@ -6,16 +6,15 @@ use Rattle.plan_laws.specs.Plans.{all_valid, sources_rows}
 use Rattle.plan_laws.specs.declared.nodes.DraftNode.{DraftNode}
 use Rattle.plan_laws.specs.declared.nodes.NodePort.{NodePort}
 use Rattle.plan_laws.specs.Drafts.{no_draft, ports_of, with_nodes}
-use Rattle.proc_api.specs.Names.{ArePortsOf, BoxPicture, GrowthForm, IsSourceKind, Keeps, Lists, chunk_rows, input_count, is_of, kept_input, kept_inputs, kept_output, kept_outputs, last_count, output_count}
+use Rattle.proc_api.specs.Names.{ArePortsOf, BoxPicture, FileRead, GrowthForm, IsSourceKind, Keeps, Lists, NoFile, PartFile, PartsFile, chunk_rows, file_read, input_count, is_of, kept_input, kept_inputs, kept_output, kept_outputs, last_count, output_count}
 unfoldable use Rattle.proc_api.specs.Names.{wire_at}
 use Rattle.proc_api.specs.Prelude.{ColumnType, Kind, PartSpec, Spec, Table, Wire, kind_of}
 use Rattle.proc_api.specs.SpecContracts.{IsUngrown}
 use Rattle.query_model.specs.Database.{paths_in}
 use Rattle.query_model.specs.ListFiles.{list_bad_line}
 use Rattle.query_model.specs.Names.{Files, UsedPart, bad_line_in, bad_place, file_bytes, good_rows, part_records}
-use Rattle.plan_laws.specs.Steps.{SourceReading, part_spec, path_sources}
+use Rattle.plan_laws.specs.Steps.{SourceReading, list_source, part_source, part_spec, path_sources}
 use Rattle.std.specs.Prelude.{Bool, List, None, Option, Some, [], cond, false, is_none, length, map, not, slice_index_or, suc, true, ℕ, ⊤, ◌&&◌, ◌++◌, ◌+◌, ◌<◌, ◌∷◌, ◌≡◌, ◌≤◌, ◌⊎◌}
-use Rattle.query_model.specs.declared.processor_spec.Spec.TheVariants as spec
 
 abbrev pub part_in : PartSpec → Option (List ℕ) → SourceRows
 part_in part None = record { rows = []; valid = false }
@@ -29,10 +28,15 @@ part_in part (Some bytes) =
 abbrev pub part_of : Files → PartSpec → SourceRows
 part_of files part = part_in part (file_bytes files part.path)
 
+-- the rows of a part of the files, and none of what is no part
+abbrev pub part_read : Files → FileRead → SourceRows
+part_read files NoFile = record { rows = []; valid = true }
+part_read files (PartFile part) = part_of files part
+part_read files (PartsFile list) = record { rows = []; valid = true }
+
 -- the parts of the files, none of which is a list
 abbrev pub parts_of_files : Files → RowsOfSources
-parts_of_files files (spec.Csv part) = part_of files part
-parts_of_files files _ = record { rows = []; valid = true }
+parts_of_files files s = part_read files (file_read (Some s))
 
 -- how the parts of a list are read
 abbrev pub reading_in : PartSpec → SourceReading
@@ -54,10 +58,14 @@ list_in files list text = record {
   valid = is_valid_list text && all_valid (parts_of_files files) (listed_sources list text);
 }
 
+abbrev pub source_in : Files → FileRead → SourceRows
+source_in files NoFile = part_read files NoFile
+source_in files (PartFile part) = part_read files (PartFile part)
+source_in files (PartsFile list) = list_in files list (file_bytes files list.path)
+
 -- the parts and the lists of parts of the files
 abbrev pub sources_of_files : Files → RowsOfSources
-sources_of_files files (spec.List list) = list_in files list (file_bytes files list.path)
-sources_of_files files s = parts_of_files files s
+sources_of_files files s = source_in files (file_read (Some s))
 
 abbrev pub chunk_types : List Table → List (List ColumnType)
 chunk_types chunks = map (λ (t : Table). t.types) chunks
@@ -141,7 +149,7 @@ pub record IsOrdinary (n : DraftNode) : Type 0 where
 -- a list of parts, whose inputs come with its growth
 pub record IsListNode (n : DraftNode) : Type 0 where
   pub list : PartSpec
-  pub is : n.spec ≡ spec.List list
+  pub is : n.spec ≡ list_source list
   pub takes : n.takes ≡ 0
   pub gives : n.gives ≡ 1
 
@@ -157,10 +165,13 @@ abbrev pub used_part : PartSpec → UsedPart
 used_part p = record { table = p.table; part = p.part; types = p.types; path = p.path }
 
 -- what is true of the part, or of the list of parts, that a source reads
+abbrev pub FileHas : (P L : PartSpec → Type 0) → FileRead → Type 0
+FileHas P L NoFile = ⊤
+FileHas P L (PartFile part) = P part
+FileHas P L (PartsFile list) = L list
+
 abbrev pub SourceHas : (P L : PartSpec → Type 0) → Spec → Type 0
-SourceHas P L (spec.Csv part) = P part
-SourceHas P L (spec.List list) = L list
-SourceHas P L _ = ⊤
+SourceHas P L s = FileHas P L (file_read (Some s))
 
 -- a node of a known kind, and this is true of its part or list where it reads one
 abbrev pub IsStep : (P L : PartSpec → Type 0) → DraftNode → Type 0
@@ -178,7 +189,7 @@ pub record IsListedNode (list : PartSpec) (wires : List Wire) (boxes : List BoxP
   pub node : ℕ
   pub in_range : node < length boxes
   pub loaded : (box_at boxes node).spec
-      ≡ Some (spec.Csv (part_spec (reading_in list) (suc i) path))
+      ≡ Some (part_source (part_spec (reading_in list) (suc i) path))
   pub inputs : input_count wires node ≡ 0
   pub outputs : output_count wires node ≡ 1
   pub edge : ℕ
@@ -205,11 +216,11 @@ pub record HasGrownByLists (files : Files) (nodes : List DraftNode) (wires more 
   pub outputs : (n : ℕ) → n < length nodes
       → output_count (wires ++ more) n ≡ output_count wires n
   pub list_ports : (n : ℕ) (list : PartSpec) → n < length nodes
-      → (box_at boxes n).spec ≡ Some (spec.List list)
-      → ArePortsOf (Some (spec.List list)) (box_at boxes n).growth (input_count (wires ++ more) n)
+      → (box_at boxes n).spec ≡ Some (list_source list)
+      → ArePortsOf (Some (list_source list)) (box_at boxes n).growth (input_count (wires ++ more) n)
       (output_count (wires ++ more) n)
   pub lists : (n : ℕ) (list : PartSpec) → n < length nodes
-      → (box_at boxes n).spec ≡ Some (spec.List list)
+      → (box_at boxes n).spec ≡ Some (list_source list)
       → (input_count (wires ++ more) n ≡ 0) ⊎ HasListed list files (wires ++ more) boxes n
 
 -- An ended run by lawful boxes, of which the first were loaded with the specs of these nodes. The

@@ -8,7 +8,7 @@ use Rattle.proc_api.specs.Prelude.{PartSpec, Spec, Wire, kind_of}
 use Rattle.proc_api.specs.Reserves.{holds_node}
 use Rattle.port_word.specs.declared.flags.Reserve.{Reserve}
 use Rattle.query_model.specs.Names.{Files}
-use Rattle.query_model.specs.declared.processor_spec.Spec.TheVariants as spec
+use Rattle.plan_laws.specs.Steps.{list_source}
 
 -- Births of a graph whose first nodes have these specs and wires, and whose reserves are behind
 -- them: none of its boxes had grown before, and each is lawful.
@@ -28,5 +28,5 @@ pub record GrowsLawfully (files : Files) (nodes : List DraftNode) (wires : List 
   pub inputs_within : (n : ℕ) → length nodes ≤ n → input_count wires n ≡ 0
   pub outputs_within : (n : ℕ) → length nodes ≤ n → output_count wires n ≡ 0
   pub lists_unfed : (n : ℕ) (list : PartSpec) → n < length nodes
-      → (box_at after n).spec ≡ Some (spec.List list)
+      → (box_at after n).spec ≡ Some (list_source list)
       → (input_count wires n ≡ 0) × (output_count wires n ≡ 1)

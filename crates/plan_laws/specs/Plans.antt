@@ -49,17 +49,21 @@ sort_step order = spec.Sort order
 abbrev pub merge_step : SortSpec → Spec
 merge_step order = spec.MergeSorted order
 
+-- a resize of so many ends into so many
+abbrev pub resize_node : (rank takes gives : ℕ) → DraftNode
+resize_node rank takes gives = joint_node spec.Resize rank takes gives
+
 -- From so many open ends with the rows of FROM to the lanes, joined with the second table where
 -- there is one, whose sources come first. The ends are those of a table's sources, or the one end
 -- of a subquery; the second table's nodes stand behind them.
 abbrev pub read_steps : ℕ → Option PlanJoin → ℕ → List DraftNode
-read_steps ends None lanes = joint_node spec.Resize 2 ends lanes ∷ []
+read_steps ends None lanes = resize_node 2 ends lanes ∷ []
 read_steps ends (Some j) lanes =
     nodes_behind ends (source_nodes 0 j.sources)
-    ++ (joint_node spec.Resize 2 ends 1
-    ∷ (nodes_behind 1 (joint_node spec.Resize 2 (length j.sources) 1 ∷ [])
+    ++ (resize_node 2 ends 1
+    ∷ (nodes_behind 1 (resize_node 2 (length j.sources) 1 ∷ [])
     ++ (joint_node (join_step j) 3 2 1
-    ∷ joint_node spec.Resize 4 1 lanes
+    ∷ resize_node 4 1 lanes
     ∷ [])))
 
 abbrev pub read_nodes : List Spec → Option PlanJoin → ℕ → List DraftNode
@@ -67,7 +71,7 @@ read_nodes sources join lanes = source_nodes 0 sources ++ read_steps (length sou
 
 -- so many lanes to one, in the order of the keys where there is one
 abbrev pub gather_nodes : Option SortSpec → ℕ → List DraftNode
-gather_nodes None lanes = joint_node spec.Resize 12 lanes 1 ∷ []
+gather_nodes None lanes = resize_node 12 lanes 1 ∷ []
 gather_nodes (Some order) lanes = lane_nodes (sort_step order) 11 0 lanes
     ++ joint_node (merge_step order) 12 lanes 1 ∷ []
 
@@ -106,6 +110,9 @@ collector rank = joint_node spec.Collect rank 1 0
 
 abbrev pub collect_node : DraftNode
 collect_node = collector 14
+
+abbrev pub collector_kind : Kind
+collector_kind = kind_of collect_node.spec
 
 abbrev pub plan_nodes : SelectPlan → List DraftNode
 plan_nodes p = body_nodes p ++ collect_node ∷ []

@@ -1,6 +1,6 @@
 -- The plan of a checked query.
 use Rattle.std.specs.Prelude.{List, None, Option, Some, [], is_none, map, ℕ, ◌++◌, ◌∷◌, ◌≡◌}
-use Rattle.plan_laws.specs.Prelude.{AggCall, AllByRecursion, Checked, ColumnType, Database, Expr, ExprOf, GroupSpec, Grouped, Grouping, Plain, Shape, StateCall, call_type, is_count, group_types, source_rows, source_table, type_of}
+use Rattle.plan_laws.specs.Prelude.{AggCall, AllByRecursion, Checked, ColumnType, Database, Expr, ExprOf, GroupSpec, Grouped, Grouping, Plain, Shape, StateCall, call_type, is_count, source_rows, source_table}
 use Rattle.plan_laws.specs.Streams.{RowsOfSources}
 use Rattle.plan_laws.specs.Plans.{PlanShape, SelectPlan, grouped, plain, plan_keys, read_rows}
 use Rattle.chunk_data.specs.Values.{type_at}
@@ -33,11 +33,6 @@ abbrev pub shape_of : Shape → List ColumnType → ℕ → PlanShape
 shape_of (Plain items) types rows = plain items
 shape_of (Grouped g) types rows = grouped (column_items g.keys ++ call_arguments g.calls)
     (group_spec g types rows) g.having (column_items g.picks)
-
--- the types of the rows that a shape makes of rows of these types
-abbrev pub shape_types : Shape → List ColumnType → List ColumnType
-shape_types (Plain items) types = map (λ e. type_of e types) items
-shape_types (Grouped g) types = map (type_at (group_types g types)) g.picks
 
 -- `count` has no argument, and each other call has one
 abbrev pub IsCall : AggCall ℕ → Type 0

@@ -1,10 +1,9 @@
 -- A plan that was laid down by a list of nodes.
 use Rattle.std.specs.Prelude.{List, [], cond, count_by, length, map, replicate, suc, sum_by, ℕ, ◌++◌, ◌+◌, ◌∷◌, ◌≡◌, ◌≤◌}
-use Rattle.plan_laws.specs.Prelude.{Checked, IsGraph, Kind, TableDecl, kind_of, query_boxes, same_kind}
+use Rattle.plan_laws.specs.Prelude.{Checked, IsGraph, Kind, TableDecl, grown_kind, kind_of, query_boxes, row_of, same_kind}
 use Rattle.plan_laws.specs.declared.nodes.DraftNode.{DraftNode}
 use Rattle.plan_laws.specs.Same.{forms}
 use Rattle.plan_laws.specs.Drafts.{no_draft, with_nodes}
-use Rattle.query_model.specs.declared.processor_spec.Kind.TheVariants as kind
 use Rattle.plan_laws.specs.Boxes.{reserved_nodes}
 use Rattle.plan_laws.specs.declared.plan.PlanNode.{PlanNode}
 use Rattle.plan_laws.specs.declared.plan.PlanReserve.{PlanReserve}
@@ -18,8 +17,8 @@ plan_ranks p = map (λ (n : PlanNode). n.rank) p.nodes
 
 -- what is kept for node n: for a list of parts, a source and an edge for each that it may name
 abbrev pub kept_at : ℕ → DraftNode → List PlanReserve
-kept_at n node = cond (same_kind (kind_of node.spec) kind.List)
-    (record { node = n; kinds = replicate 32 kind.Csv; edges = 32 } ∷ []) []
+kept_at n node = cond (row_of (kind_of node.spec)).reads_list
+    (record { node = n; kinds = replicate 32 grown_kind; edges = 32 } ∷ []) []
 
 -- what is kept for the nodes, of which the first is node n
 abbrev pub reserves_from : ℕ → List DraftNode → List PlanReserve

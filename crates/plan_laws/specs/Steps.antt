@@ -1,8 +1,9 @@
 -- What a checked query fills in of the table of steps.
 use Rattle.std.specs.Prelude.{Bool, List, None, Option, Some, [], slice_get, suc, ℕ, ◌++◌, ◌∷◌}
-use Rattle.plan_laws.specs.Prelude.{Checked, CheckedJoin, ColumnType, Declared, JoinSpec, ListFile, Numbers, PartSpec, PartsDecl, Paths, SortKey, SortSpec, Spec, TableDecl, TableUse, column_types, numbers}
+use Rattle.plan_laws.specs.Prelude.{Checked, CheckedJoin, ColumnType, Declared, JoinSpec, Kind, ListFile, Numbers, PartSpec, PartsDecl, Paths, SortKey, SortSpec, Spec, TableDecl, TableUse, column_types, numbers, shape_types}
 use Rattle.plan_laws.specs.Plans.{PlanJoin, SelectPlan}
-use Rattle.plan_laws.specs.Queries.{shape_of, shape_types}
+use Rattle.plan_laws.specs.Queries.{shape_of}
+use Rattle.query_model.specs.declared.processor_spec.Kind.TheVariants as kind
 use Rattle.query_model.specs.declared.processor_spec.Spec.TheVariants as spec
 
 -- how the parts of a table are read: the place of the table, the types of its columns, whether the
@@ -23,14 +24,24 @@ part_spec r part path = record {
   rows = r.rows;
 }
 
+-- the source of a part's rows, and that of a list of parts, with its kind
+abbrev pub part_source : PartSpec → Spec
+part_source part = spec.Csv part
+
+abbrev pub list_kind : Kind
+list_kind = kind.List
+
+abbrev pub list_source : PartSpec → Spec
+list_source list = spec.List list
+
 -- a source for each path, of which the first is that of part k
 abbrev pub path_sources : SourceReading → ℕ → List (List ℕ) → List Spec
 path_sources r k [] = []
-path_sources r k (path ∷ paths) = spec.Csv (part_spec r k path) ∷ path_sources r (suc k) paths
+path_sources r k (path ∷ paths) = part_source (part_spec r k path) ∷ path_sources r (suc k) paths
 
 abbrev pub part_sources : SourceReading → PartsDecl → List Spec
 part_sources r (Paths paths) = path_sources r 1 paths
-part_sources r (ListFile path) = spec.List (part_spec r 0 path) ∷ []
+part_sources r (ListFile path) = list_source (part_spec r 0 path) ∷ []
 
 abbrev pub table_reading : (header : Bool) (rows table : ℕ) → TableDecl → SourceReading
 table_reading header rows t decl = record {

@@ -1,5 +1,4 @@
 pub mod Imports
-pub mod OneBox
 pub mod Taking
 pub mod Loading
 pub mod Telling

@@ -1,12 +1,11 @@
 -- Laws of loading and unloading boxes one after another.
-use Rattle.std.proofs.Common.{◌≡◌, ℕ, ◌+◌, ◌<◌, List, [], ◌∷◌, ◌++◌, map, length, length-append, get_or, set, drop, ap, subst, ◌∙◌, sym, arith, inl, inr}
-use Rattle.plan_run.proofs.Imports.{All, All-from_get_or, All-get_or, All-head, All-tail, AreStarting, AreStill, Changes, Changes-map_set, GraphForm, IsStill, KeepsBehind, Kind, LoadsFirst, Spec, UnloadsFirst, append_assoc, box_at, cases_eq, cases_lt, drop-drop, ext_get_or, get_or-drop, get_or-map, get_or_append_left, get_or_default, kind_of, kinds_in, kinds_of, kinds_taken, length-map, one-more, spec_at}
-use Rattle.query_model.specs.declared.processor_spec.Kind.TheVariants as kind
-use Rattle.query_model.specs.declared.processor_spec.Spec.TheVariants as spec
-use Rattle.proc_api.specs.Names.{BoxPicture, no_box, IsBlank, Loads, Unloads}
+use Rattle.plan_run.proofs.Imports.{All, All-from_get_or, All-get_or, All-head, All-tail, AreStarting, Changes, Changes-map_set, GraphForm, IsStill, KeepsBehind, Kind, LoadsFirst, Spec, append_assoc, box_at, cases_eq, cases_lt, drop-drop, ext_get_or, get_or-drop, get_or-map, get_or_append_left, get_or_default, kind_of, kinds_in, kinds_of, kinds_taken, length-map, no_box, no_spec, one-more, spec_at, BoxPicture, EachBox, FirstBoxes, IsBlank, List, Loads, SameBox, SameCounts, Unloads, [], ap, arith, drop, get_or, length, length-append, map, set, subst, sym, ℕ, ◌++◌, ◌+◌, ◌<◌, ◌∙◌, ◌∷◌, ◌≡◌}
 
 pub still : (p : BoxPicture) → IsStill p p
 still p = grind arith
+
+pub same-still : (p q : BoxPicture) → SameBox p q → SameCounts p q → IsStill p q
+same-still p q s c = grind arith
 
 -- what holds at each place holds of all
 pub all-at : (P : BoxPicture → Type 0) (boxes : List BoxPicture)
@@ -19,21 +18,44 @@ pub at-all : (P : BoxPicture → Type 0) (boxes : List BoxPicture) (n : ℕ) →
 unfolding box_at
 at-all P boxes n lt all = All-get_or P boxes n no_box lt all
 
+-- ---- one box after another
+
+pub none-changed : (R : ℕ → BoxPicture → BoxPicture → Type 0) (boxes : List BoxPicture)
+    → FirstBoxes 0 R boxes boxes
+none-changed R boxes = grind arith
+
+-- the next box was called, and is as R says at its place
+pub one-changed : (k : ℕ) (R : ℕ → BoxPicture → BoxPicture → Type 0)
+    (before mid after : List BoxPicture) → FirstBoxes k R before mid
+    → Changes no_box k (R k) mid after → FirstBoxes (k + 1) R before after
+unfolding box_at
+one-changed k R before mid after f next = record {
+  count = next.len ∙ f.count;
+  first = one-more (λ n. R n (box_at before n) (box_at after n)) k
+      (λ n lt. subst (R n (box_at before n)) (sym (next.others n (λ e. omega (arith, lt, e))))
+      (f.first n lt))
+      (subst (λ p. R k p (box_at after k)) (f.others k (omega arith)) next.here);
+  others = λ n le. next.others n (λ e. omega (arith, le, e)) ∙ f.others n (omega (arith, le));
+}
+
+-- all boxes were called
+pub all-changed : (k : ℕ) (R : BoxPicture → BoxPicture → Type 0) (before after : List BoxPicture)
+    → length before ≡ k → FirstBoxes k (λ n. R) before after → EachBox R before after
+all-changed k R before after len f = grind arith
+
+pub unloaded-blank : (before after : List BoxPicture) → EachBox Unloads before after
+    → All IsBlank after
+unloaded-blank before after e =
+    all-at IsBlank after (λ n lt. (e.each n (subst (λ m. n < m) e.count lt)).blank)
+
 -- ---- loading
 
 pub one-loaded : (k : ℕ) (specs : List Spec) (before mid after : List BoxPicture) (s : Spec)
     → LoadsFirst k specs before mid → Changes no_box k (λ p q. Loads p s q) mid after
     → s ≡ spec_at specs k → LoadsFirst (k + 1) specs before after
-unfolding box_at
-one-loaded k specs before mid after s f next here = record {
-  count = next.len ∙ f.count;
-  loaded = one-more (λ n. Loads (box_at before n) (spec_at specs n) (box_at after n)) k
-      (λ n lt. subst (Loads (box_at before n) (spec_at specs n))
-      (sym (next.others n (λ e. omega (arith, lt, e)))) (f.loaded n lt))
-      (subst (λ p. Loads p (spec_at specs k) (box_at after k)) (f.others k (omega arith))
-      (subst (λ t. Loads (box_at mid k) t (box_at after k)) here next.here));
-  others = λ n le. next.others n (λ e. omega (arith, le, e)) ∙ f.others n (omega (arith, le));
-}
+one-loaded k specs before mid after s f next here =
+    one-changed k (λ n p q. Loads p (spec_at specs n) q) before mid after f
+    (subst (λ t. Changes no_box k (λ p q. Loads p t q) mid after) here next)
 
 -- the next box was refused, and is as it was
 pub none-more : (k : ℕ) (specs : List Spec) (before mid after : List BoxPicture)
@@ -43,14 +65,8 @@ unfolding box_at
 none-more k specs before mid after f next = grind (arith, cases_eq)
 
 pub loads-still : (k : ℕ) (specs : List Spec) (before after : List BoxPicture)
-    → LoadsFirst k specs before after → AreStill before after
-loads-still k specs before after f = record {
-  count = f.count;
-  each = λ n _. elim (cases_lt n k) [
-    | inl lt ↦ let l = f.loaded n lt in grind (arith, l)
-    | inr le ↦ subst (IsStill (box_at before n)) (sym (f.others n le)) (still (box_at before n))
-  ];
-}
+    → LoadsFirst k specs before after → EachBox IsStill before after
+loads-still k specs before after f = search (arith, cases_lt)
 
 -- the next box is still as it was
 pub next-blank : (k : ℕ) (specs : List Spec) (before mid : List BoxPicture)
@@ -76,21 +92,6 @@ pub next-rest : (specs rest after : List Spec) (k : ℕ) → rest ≡ drop k spe
     → after ≡ drop (k + 1) specs
 next-rest specs rest after k e step = step ∙ ap (drop 1) e ∙ drop-drop 1 k specs
 
--- ---- unloading
-
-pub none-unloaded : (boxes : List BoxPicture) → UnloadsFirst 0 boxes boxes
-none-unloaded boxes = grind arith
-
-pub one-unloaded : (k : ℕ) (before mid after : List BoxPicture) → UnloadsFirst k before mid
-    → Changes no_box k Unloads mid after → UnloadsFirst (k + 1) before after
-unfolding box_at
-one-unloaded k before mid after f next = grind (arith, cases_eq)
-
-pub unloaded-blank : (k : ℕ) (before after : List BoxPicture) → length before ≡ k
-    → UnloadsFirst k before after → All IsBlank after
-unloaded-blank k before after len f =
-    all-at IsBlank after (λ n lt. (f.unloaded n (subst (λ m. n < m) (f.count ∙ len) lt)).blank)
-
 -- ---- loaded boxes
 
 -- the loaded boxes start the graph, whose other nodes are kept
@@ -98,9 +99,7 @@ pub loaded-starting : (specs : List Spec) (form : GraphForm) (before after : Lis
     → length form.ranks ≡ length before → KeepsBehind (length specs) form → All IsBlank before
     → LoadsFirst (length specs) specs before after → AreStarting form.reserves after
 unfolding box_at
-loaded-starting specs form before after ranks keeps blank f n lt =
-    let kept = keeps.kept n in
-    grind (arith, kept, cases_lt, at-all)
+loaded-starting specs form before after ranks keeps blank f n lt = search (arith, cases_lt, at-all)
 
 -- the kinds of the first boxes are those of the specs
 pub first-kinds : (specs : List Spec) (kept : List Kind) (boxes : List BoxPicture)
@@ -113,10 +112,10 @@ first-kinds specs kept boxes e n lt =
     let len = ap (λ (l : List Kind). length l) e in
     let boxes_len = length-map boxes (λ (p : BoxPicture). p.kind) in
     let all = length-append (kinds_of specs) kept in
-    sym (get_or-map kind_of specs n spec.Collect kind.Collect lt)
-    ∙ sym (get_or_append_left (kinds_of specs) kept kind.Collect n in_kinds)
-    ∙ ap (λ l. get_or l n kind.Collect) (sym e)
-    ∙ get_or-map (λ (p : BoxPicture). p.kind) boxes n no_box kind.Collect
+    sym (get_or-map kind_of specs n no_spec no_box.kind lt)
+    ∙ sym (get_or_append_left (kinds_of specs) kept no_box.kind n in_kinds)
+    ∙ ap (λ l. get_or l n no_box.kind) (sym e)
+    ∙ get_or-map (λ (p : BoxPicture). p.kind) boxes n no_box no_box.kind
     (omega (arith, in_kinds, len, boxes_len, all))
 
 pub boxes-count : (specs : List Spec) (kept : List Kind) (boxes : List BoxPicture)
@@ -124,18 +123,18 @@ pub boxes-count : (specs : List Spec) (kept : List Kind) (boxes : List BoxPictur
 boxes-count specs kept boxes e = grind (arith, length-map, length-append)
 
 -- boxes that keep what they are keep their kinds
-pub still-kinds : (before after : List BoxPicture) → AreStill before after
+pub still-kinds : (before after : List BoxPicture) → EachBox IsStill before after
     → kinds_in after ≡ kinds_in before
 unfolding box_at
 still-kinds before after s =
     let kind_at : BoxPicture → Kind = λ p. p.kind in
     let len : length (kinds_in after) ≡ length after = length-map after kind_at in
-    ext_get_or kind.Collect (kinds_in after) (kinds_in before)
+    ext_get_or no_box.kind (kinds_in after) (kinds_in before)
     (len ∙ s.count ∙ sym (length-map before kind_at)) (λ n lt.
     let in_after : n < length after = subst (λ k. n < k) len lt in
     let in_before : n < length before = subst (λ k. n < k) s.count in_after in
-    get_or-map kind_at after n no_box kind.Collect in_after ∙ (s.each n in_before).kind
-    ∙ sym (get_or-map kind_at before n no_box kind.Collect in_before))
+    get_or-map kind_at after n no_box no_box.kind in_after ∙ (s.each n in_before).kind
+    ∙ sym (get_or-map kind_at before n no_box no_box.kind in_before))
 
 -- ---- lists of boxes, as the code has them
 
@@ -157,6 +156,11 @@ rest-all P f [] ys e all = subst (λ l. All P (map f l)) (sym e) all
 rest-all P f (x ∷ xs) ys e all = subst (λ l. All P (map f l)) (sym e)
     (All-tail P (f x) (map f xs) all)
 
+pub box-read : {A : Type 0} (f : A → BoxPicture) (xs : List A) (n : ℕ) (x : A) → n < length xs
+    → x ≡ get_or xs n x → box_at (map f xs) n ≡ f x
+unfolding box_at
+box-read f xs n x lt e = get_or-map f xs n x no_box lt ∙ ap f (sym e)
+
 -- the front of one list went behind another
 pub one-over : {A : Type 0} (rack boxes rack' boxes' : List A) (b : A) → b ≡ get_or boxes 0 b
     → 0 < length boxes → rack' ≡ rack ++ b ∷ [] → boxes' ≡ drop 1 boxes
@@ -165,7 +169,7 @@ one-over rack boxes rack' boxes' b read lt r e = grind (arith, append_assoc)
 
 -- one box alone was called, and is still the same
 pub still-at : {A : Type 0} (f : A → BoxPicture) (xs : List A) (n : ℕ) (x y : A) → n < length xs
-    → x ≡ get_or xs n x → IsStill (f x) (f y) → AreStill (map f xs) (map f (set xs n y))
+    → x ≡ get_or xs n x → IsStill (f x) (f y) → EachBox IsStill (map f xs) (map f (set xs n y))
 unfolding box_at
 still-at f xs n x y lt read s =
     let next : Changes no_box n IsStill (map f xs) (map f (set xs n y)) =

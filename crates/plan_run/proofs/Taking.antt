@@ -1,17 +1,10 @@
 -- Laws of what is taken from a rack, and what is left.
-use Rattle.std.proofs.Common.{ap₂, ◌≡◌, ℕ, zero, suc, ◌+◌, ◌<◌, ◌≤◌, Bool, true, false, cond, List, [], ◌∷◌, ◌++◌, map, take, length, length-append, get_or, refl, ap, subst, ◌∙◌, sym, arith}
-use Rattle.plan_run.proofs.Imports.{All, All-cons, All-head, All-nil, All-tail, BoxPicture, HasStock, Kind, Spec, TakesOut, count_by, count_by-cons, eq-eqb, eqb-true, first_box_of, get_or-append-add, get_or-map, get_or_append_left, get_or_default, is_of, kind_of, kind_place, kinds_in, kinds_taken, left_after, length-map, map_push, same_kind, take_more, taken_for, without_first_box}
-use Rattle.proc_api.proofs.RackLaws.{kind-at}
-use Rattle.proc_api.specs.KindRows.{all_kinds}
-use Rattle.query_model.specs.declared.processor_spec.Kind.TheVariants as kind
+use Rattle.plan_run.proofs.Imports.{All, All-cons, All-head, All-nil, All-tail, BoxPicture, HasStock, Kind, Spec, TakesOut, count_by, count_by-cons, eq-eqb, eqb-true, first_box_of, get_or-append-add, get_or-map, get_or_append_left, get_or_default, is_of, kind_of, kind_place, kinds_in, kinds_taken, left_after, length-map, map_push, same_kind, take_more, taken_for, without_first_box, Bool, List, [], ap, ap₂, arith, cond, false, get_or, kind-at, length, length-append, map, refl, subst, suc, sym, take, true, zero, ℕ, ◌++◌, ◌+◌, ◌<◌, ◌∙◌, ◌∷◌, ◌≡◌, ◌≤◌}
 
 -- ---- kinds
 
 pub same-kind : (a b : Kind) → same_kind a b ≡ true → a ≡ b
-same-kind a b e =
-    sym (kind-at a a)
-    ∙ ap (λ n. get_or all_kinds n a) (eqb-true (kind_place a) (kind_place b) e)
-    ∙ kind-at b a
+same-kind a b e = search (arith, kind-at, eqb-true)
 
 -- ---- counts
 
@@ -23,10 +16,7 @@ none-first t n e = grind arith
 first-at : (k : Kind) (front : List BoxPicture) (b : BoxPicture) (back : List BoxPicture)
     → is_of k b ≡ true → count_by (is_of k) front ≡ 0 → (first_box_of k (front ++ b ∷ back) ≡ b)
     × (without_first_box k (front ++ b ∷ back) ≡ front ++ back)
-first-at k [] b back it none = (
-  ap (λ t. cond t b (first_box_of k back)) it,
-  ap (λ t. cond t back (b ∷ without_first_box k back)) it,
-)
+first-at k [] b back it none = search (arith)
 first-at k (p ∷ front) b back it none =
     let parts = none-first (is_of k p) (count_by (is_of k) front)
     (sym (count_by-cons (is_of k) p front) ∙ none) in
@@ -222,10 +212,10 @@ pub kept-kind : (specs : List Spec) (kept : List Kind) (i : ℕ) (k : Kind) → 
     → get_or (kinds_taken specs kept) (length specs + i) k ≡ k
 kept-kind specs kept i k read = grind (arith, length-map, get_or-append-add)
 
-pub kept-read : (specs : List Spec) (kept seen : List Kind) (i : ℕ) → seen ≡ kept → i < length kept
-    → get_or (kinds_taken specs kept) (length specs + i) (get_or seen i kind.Csv)
-    ≡ get_or seen i kind.Csv
-kept-read specs kept seen i e lt =
+pub kept-read : (specs : List Spec) (kept seen : List Kind) (i : ℕ) (past : Kind) → seen ≡ kept
+    → i < length kept → get_or (kinds_taken specs kept) (length specs + i) (get_or seen i past)
+    ≡ get_or seen i past
+kept-read specs kept seen i past e lt =
     kept-kind specs kept i _ (grind (arith, get_or_default))
 
 pub next-there : (kinds : List Kind) (i : ℕ) (k : Kind) (before left : List BoxPicture)

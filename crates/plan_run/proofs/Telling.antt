@@ -1,9 +1,5 @@
 -- What a run of a plan tells, from the steps that it is made of.
-use Rattle.std.proofs.Common.{◌≡◌, ◌⊎◌, ℕ, ◌<◌, ◌≤◌, true, List, length, Some, None, Result, IfOk, IfErr, subst, ◌∙◌, sym, arith}
-use Rattle.std.proofs.lemmas.Bool.{lt-leb}
-use Rattle.plan_run.proofs.Imports.{All, All-append, AreLater, AreStarting, AreStill, Begun, GivesBack, GivesRows, GivesUnloaded, GraphBegins, GraphForm, HasStock, IsBlankAgain, IsLater, IsStill, IsThese, KeepsBehind, Kind, LoadsFirst, PlanFault, PlanFaultHolds, RanKept, RanWith, ReadsByKind, RunsLoaded, RunsPlan, RunsTaken, Spec, Table, cases_lt, kinds_in, kinds_taken, left_after, spec_at, taken_at, taken_for}
-use Rattle.proc_api.specs.Names.{BoxPicture, IsBlank, IsSourceKind, HasNoReader, Loads, Unloads, raised}
-use Rattle.exec_laws.specs.Names.{IsBorn, box_at, GivenBack, GivesBox, StaysBox}
+use Rattle.plan_run.proofs.Imports.{All, All-append, AreRun, AreStarting, Begun, BoxPicture, EachBox, Err, GivenBack, GivesBack, GivesBox, GivesPlan, Global, GraphBegins, GraphForm, HasNoReader, HasStock, IsBlank, IsBlankAgain, IsBorn, IsLater, IsSourceKind, IsStill, KeepsBehind, Kind, LeavesStill, List, Loads, LoadsFirst, None, Ok, PlanFault, PlanFaultHolds, PutsBehind, RanKept, RanWith, ReadsByKind, Result, RunsPlan, Some, Spec, StaysBox, Table, Unloads, Vec, arith, box_at, cases_lt, kinds_in, kinds_taken, left_after, length, lt-leb, raised, spec_at, subst, sym, taken_at, taken_for, ℕ, ◌+◌, ◌<◌, ◌≡◌, ◌≤◌, ◌⊎◌}
 use Rattle.plan_run.specs.declared.run.PlanFault.TheVariants as end
 use Rattle.plan_run.proofs.Loading.{all-at, at-all, still}
 use Rattle.plan_run.proofs.Taking.{kinds-length, left-all, taken-all, taken-length}
@@ -57,59 +53,66 @@ again-after p q r l u = grind arith
 
 -- ---- lists of boxes
 
-pub still-then-later : (before mid after : List BoxPicture) → AreStill before mid
-    → AreLater mid after → AreLater before after
-still-then-later before mid after s l = grind (arith, later-later, still-later)
+-- what is made of each box by one call after another
+pub each-then : (R S T : BoxPicture → BoxPicture → Type 0)
+    → ((p q r : BoxPicture) → R p q → S q r → T p r) → (before mid after : List BoxPicture)
+    → EachBox R before mid → EachBox S mid after → EachBox T before after
+each-then R S T then before mid after e f = search (arith)
+
+pub still-then-later : (before mid after : List BoxPicture) → EachBox IsStill before mid
+    → EachBox IsLater mid after → EachBox IsLater before after
+still-then-later =
+    each-then IsStill IsLater IsLater (λ p q r s. later-later p q r (still-later p q s))
 
 pub run-later : (loaded ended after : List BoxPicture) → GivenBack loaded ended
-    → AreStill ended after → AreLater loaded after
-run-later loaded ended after g s = grind (arith, later-later, still-later, gives-later)
+    → EachBox IsStill ended after → EachBox IsLater loaded after
+run-later loaded ended after g = search (arith, each-then, later-later, gives-later, still-later)
 
 -- ---- what each step makes of the boxes that a run left
 
 pub taken-runs : (specs : List Spec) (taken loaded after ended : List BoxPicture)
     → length specs ≤ length taken → All IsBlank taken → LoadsFirst (length specs) specs taken loaded
-    → RunsLoaded loaded after ended → RunsTaken specs taken after ended
+    → LeavesStill (GivenBack loaded) after ended → LeavesStill (AreRun specs taken) after ended
+unfolding spec_at box_at
 taken-runs specs taken loaded after ended enough blank f r =
-    let count = f.count in
-    record {
-      count = r.back.count ∙ f.count;
-      ran = λ n lt. ran-box (spec_at specs n) (box_at taken n) (box_at loaded n) (box_at ended n)
-          (f.loaded n lt) ((r.back.each n (omega (arith, lt, enough, count))).born
-          (born-of (box_at loaded n) (spec_at specs n) (f.loaded n lt).spec));
-      ran_kept = λ n past lt. ran-kept (box_at taken n) (box_at ended n)
-          (at-all IsBlank taken n lt blank)
-          (subst (λ p. GivesBox p (box_at ended n)) (f.others n past)
-          (r.back.each n (omega (arith, lt, count))));
-      still = r.still;
-    }
+    search (arith, ran-box, born-of, ran-kept, at-all)
+
+-- boxes that were put behind others, by what was made of them before
+behind-then : (R S T : BoxPicture → BoxPicture → Type 0)
+    → ((p q r : BoxPicture) → R p q → S q r → T p r)
+    → (first boxes before after : List BoxPicture) → EachBox R first boxes
+    → PutsBehind S boxes before after → PutsBehind T first before after
+behind-then R S T then first boxes before after e b = search (arith, each-then)
 
 pub plan-runs : (specs : List Spec) (kept : List Kind)
     (before taken left rack after ended : List BoxPicture)
     → taken ≡ taken_for (kinds_taken specs kept) before
-    → left ≡ left_after (kinds_taken specs kept) before
-    → GivesUnloaded after left rack → RunsTaken specs taken after ended
-    → RunsPlan specs kept before rack ended
+    → left ≡ left_after (kinds_taken specs kept) before → PutsBehind Unloads after left rack
+    → LeavesStill (AreRun specs taken) after ended → RunsPlan specs kept before rack ended
 plan-runs specs kept before taken left rack after ended t l g h =
-    grind (arith, taken-length, kinds-length, unloads-after)
+    search (arith, behind-then, unloads-after)
 
 pub plan-gives-back : (kinds : List Kind) (before taken left rack after : List BoxPicture)
     → HasStock kinds before → taken ≡ taken_for kinds before → left ≡ left_after kinds before
-    → GivesUnloaded after left rack → AreLater taken after → GivesBack kinds before rack
+    → PutsBehind Unloads after left rack → EachBox IsLater taken after → GivesBack kinds before rack
 plan-gives-back kinds before taken left rack after stock t l g h =
-    grind (arith, taken-length, again-after)
+    search (arith, behind-then, again-after)
 
 pub back-blank : (kinds : List Kind) (before after : List BoxPicture) → All IsBlank before
     → GivesBack kinds before after → All IsBlank after
 back-blank kinds before after blank g =
-    subst (All IsBlank) (sym g.rack) (All-append IsBlank (left_after kinds before) g.given
-    (left-all IsBlank kinds before blank)
-    (all-at IsBlank g.given (λ n lt. (g.each n (subst (λ k. n < k) g.count lt)).blank)))
+    let back = g.back in
+    subst (All IsBlank) (sym back.rack) (All-append IsBlank (left_after kinds before) back.given
+    (left-all IsBlank kinds before blank) (all-at IsBlank back.given
+    (λ n lt. (back.boxes.each n (subst (λ k. n < k) back.boxes.count lt)).blank)))
 
 module _ (specs : List Spec) (kept : List Kind) (before after ended : List BoxPicture)
     (run : RunsPlan specs kept before after ended) where
   abbrev kinds : List Kind
   kinds = kinds_taken specs kept
+
+  pub run-count : length ended ≡ length specs + length kept
+  run-count = grind (arith, run.boxes.count, taken-length, kinds-length)
 
   -- each box that a run of a plan left is that which was taken
   pub ended-later : (n : ℕ) → n < length ended
@@ -118,17 +121,13 @@ module _ (specs : List Spec) (kept : List Kind) (before after ended : List BoxPi
 
   -- and it was given back
   pub runs-give-back : HasStock kinds before → GivesBack kinds before after
-  runs-give-back stock =
-      grind (arith, run.count, kinds-length, ended-later, again-after, run.unloaded)
+  runs-give-back stock = search (arith, behind-then, again-after, ended-later)
 
   -- what is true of all boxes of the rack is true of those that are taken
   pub taken-has : (P : BoxPicture → Type 0) → HasStock kinds before → All P before → (n : ℕ)
       → n < length ended → P (taken_at kinds before n)
   taken-has P stock all n lt =
-      let count = run.count in
-      let total = kinds-length specs kept in
-      let len = taken-length kinds before in
-      at-all P (taken_for kinds before) n (omega (arith, lt, count, total, len))
+      at-all P (taken_for kinds before) n (subst (λ k. n < k) run.boxes.count lt)
       (taken-all P kinds before stock all)
 
 -- ---- the ends
@@ -138,32 +137,31 @@ pub reads-at : (at p : BoxPicture) (k : Kind) → at ≡ p → k ≡ p.kind → 
     → ReadsByKind at
 reads-at at p k same is h = grind arith
 
-module _ (R S : List BoxPicture → Type 0) (by : (ended : List BoxPicture) → R ended → S ended) where
-  pub rows-by : (nodes : ℕ) (chunks : List Table) (b : Begun) → GivesRows R nodes chunks b
-      → GivesRows S nodes chunks b
-  rows-by nodes chunks b r = grind arith
+-- what is said of a run by the boxes that it left is said by what they are besides
+module _ (R S : List BoxPicture → Type 0) (by : (ended : List BoxPicture) → R ended → S ended)
+    (B C : (Begun → Type 0) → Type 0)
+    (up : (P Q : Begun → Type 0) → ((b : Begun) → P b → Q b) → B P → C Q) where
+  fault-by : (f : PlanFault) → PlanFaultHolds f B R → PlanFaultHolds f C S
+  fault-by (end.Fault node f) h = up _ _ (λ b h. grind arith) h
+  fault-by (end.Stuck k) h = up _ _ (λ b h. grind arith) h
+  fault-by (end.BadGrowth k) h = up _ _ (λ b h. grind arith) h
+  fault-by end.Memory h = h
 
-  pub rows-for : (nodes n : ℕ) (chunks : List Table) → nodes ≡ n → (b : Begun)
-      → GivesRows R nodes chunks b → GivesRows S n chunks b
-  rows-for nodes n chunks e b r = grind (arith, rows-by)
-
-  pub fault-by : (f : PlanFault) (B C : (Begun → Type 0) → Type 0)
-      → ((P Q : Begun → Type 0) → ((b : Begun) → P b → Q b) → B P → C Q)
-      → PlanFaultHolds f B R → PlanFaultHolds f C S
-  fault-by (end.Fault node f) B C up h = up _ _ (λ b h. grind arith) h
-  fault-by (end.Stuck k) B C up h = up _ _ (λ b h. grind arith) h
-  fault-by (end.BadGrowth k) B C up h = up _ _ (λ b h. grind arith) h
-  fault-by end.Memory B C up h = h
+  pub gives-by : (nodes n : ℕ) → nodes ≡ n → (r : Result (Vec Table Global) PlanFault)
+      → GivesPlan B R nodes r → GivesPlan C S n r
+  gives-by nodes n e (Ok chunks) g =
+      record { rows = up _ _ (λ b h. grind arith) g.rows; fault = tt }
+  gives-by nodes n e (Err f) g = record { rows = tt; fault = fault-by f g.fault }
 
 pub begins-by : (form : GraphForm) (ks all : List Kind) → ks ≡ all → (P Q : Begun → Type 0)
     → ((b : Begun) → P b → Q b) → GraphBegins form ks P → GraphBegins form all Q
 begins-by form ks all e P Q by h = grind arith
 
 -- these boxes, as a run left them
-pub these-run : (loaded final after : List BoxPicture) → GivenBack loaded final
-    → AreStill final after → (ended : List BoxPicture) → IsThese final ended
-    → RunsLoaded loaded after ended
-these-run loaded final after back still ended e = grind arith
+pub still-left : (R : List BoxPicture → Type 0) (final after : List BoxPicture) → R final
+    → EachBox IsStill final after → (ended : List BoxPicture) → ended ≡ final
+    → LeavesStill R after ended
+still-left R final after left still ended e = grind arith
 
 -- the graph began with these boxes
 pub begun-with : (form : GraphForm) (boxes : List BoxPicture) → AreStarting form.reserves boxes
@@ -175,14 +173,6 @@ pub begun-with : (form : GraphForm) (boxes : List BoxPicture) → AreStarting fo
       boxes = boxes;
     }) → GraphBegins form (kinds_in boxes) Q
 begun-with form boxes starting P Q by h = grind arith
-
-pub if-ok : {A E : Type 0} (r : Result A E) (P Q : A → Type 0) → ((x : A) → P x → Q x) → IfOk r P
-    → IfOk r Q
-if-ok r P Q by h = grind arith
-
-pub if-err : {A E : Type 0} (r : Result A E) (P Q : E → Type 0) → ((e : E) → P e → Q e) → IfErr r P
-    → IfErr r Q
-if-err r P Q by h = grind arith
 
 -- the first boxes are loaded still
 pub starting-born : (form : GraphForm) (nodes : ℕ) (boxes ended : List BoxPicture)

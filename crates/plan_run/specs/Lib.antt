@@ -1,3 +1,3 @@
 pub mod Stock
+pub mod Boxes
 pub mod Plans
-pub mod Steps

@@ -1,26 +1,24 @@
 -- What a run of a plan tells: how it ended, of which boxes, and what the rack has afterwards.
-use Rattle.std.specs.Prelude.{All, ◌≡◌, ◌⊎◌, ℕ, ◌+◌, ◌-◌, ◌<◌, ◌≤◌, ◌++◌, List, length, map, nat_le, slice_index_or, Some, ⊤}
+use Rattle.std.specs.Prelude.{All, IfErr, IfOk, Result, Vec, ◌≡◌, ◌⊎◌, ℕ, ◌+◌, ◌-◌, ◌<◌, ◌≤◌, ◌++◌, List, length, map, nat_le, ⊤}
+use Rattle.std.specs.declared.alloc.Global.{Global}
 use Rattle.chunk_data.specs.Values.{Table}
 use Rattle.query_model.specs.Kinds.{kind_of}
 use Rattle.query_model.specs.declared.processor_spec.Spec.{Spec}
 use Rattle.query_model.specs.declared.processor_spec.Kind.{Kind}
-use Rattle.query_model.specs.declared.processor_spec.Spec.TheVariants as spec
 use Rattle.proc_api.specs.Graphs.{IsGraph}
 use Rattle.proc_api.specs.Reserves.{AreReserves, AreStarting, is_reserved}
 use Rattle.exec_laws.specs.declared.growth.GrowthFlaw.{GrowthFlaw}
 use Rattle.pipeline_exec.specs.Ends.{Begun, EndsBadly, HasGrown, HasGrownByAll}
-use Rattle.proc_api.specs.Names.{BoxPicture, IsBlank, IsSourceKind, HasNoReader, Unloads, handed_out_by, raised}
+use Rattle.proc_api.specs.Names.{BoxPicture, IsBlank, IsSourceKind, HasNoReader, Unloads, handed_out_by}
 use Rattle.proc_api.specs.declared.status.WorkFault.{WorkFault}
 use Rattle.exec_laws.specs.Names.{box_at, IsDone, IsFault, IsStuck}
 use Rattle.exec_laws.specs.declared.edges.StuckNode.{StuckNode}
+use Rattle.plan_run.specs.Boxes.{AreRun, IsBlankAgain, PutsBehind}
 use Rattle.plan_run.specs.Stock.{HasStock, taken_for, left_after}
 use Rattle.plan_run.specs.declared.run.GraphForm.{GraphForm}
 use Rattle.plan_run.specs.declared.run.PlanGraph.{PlanGraph}
 use Rattle.plan_run.specs.declared.run.PlanFault.{PlanFault}
 use Rattle.plan_run.specs.declared.run.PlanFault.TheVariants as end
-
-unfoldable pub spec_at : List Spec → ℕ → Spec
-spec_at specs n = slice_index_or specs n spec.Collect
 
 abbrev pub kinds_of : List Spec → List Kind
 kinds_of specs = map kind_of specs
@@ -53,38 +51,6 @@ pub record MayRunPlan (p : PlanGraph) (workers : ℕ) (rack : List BoxPicture) :
   pub stock : HasStock (kinds_taken p.specs.items p.kept) rack
   pub graph : MayRun (length p.specs.items) (length p.specs.items + length p.kept) p.form workers
 
--- ---- the boxes
-
--- A blank box that was loaded with the spec and run, as the run left it: the same box, whose counts
--- since then are what they rose.
-pub record RanWith (s : Spec) (p q : BoxPicture) : Type 0 where
-  pub kind : q.kind ≡ p.kind
-  pub lawful : q.lawful ≡ p.lawful
-  pub files : q.files ≡ p.files
-  pub of_kind : kind_of s ≡ p.kind
-  pub spec : q.spec ≡ Some s
-  pub faults : p.faults ≤ q.faults
-  pub pendings : p.pendings ≤ q.pendings
-  pub faults_since : raised p.faults q.notes.faults ≤ q.faults
-  pub pendings_since : raised p.pendings q.notes.pendings ≤ q.pendings
-  pub pulled : q.pulled ≡ p.pulled + q.notes.pulled
-
--- a blank box that was kept, as the run left it: as it was, or loaded when its node was born, and
--- run
-abbrev pub RanKept : (p q : BoxPicture) → Type 0
-RanKept p q = ((q ≡ p) × IsBlank q) ⊎ ((s : Spec) × RanWith s p q)
-
--- a box of a rack that was taken and given back: the same box, blank again, none of whose counts
--- has fallen
-pub record IsBlankAgain (p q : BoxPicture) : Type 0 where
-  pub kind : q.kind ≡ p.kind
-  pub lawful : q.lawful ≡ p.lawful
-  pub files : q.files ≡ p.files
-  pub blank : IsBlank q
-  pub faults : p.faults ≤ q.faults
-  pub pendings : p.pendings ≤ q.pendings
-  pub pulled : p.pulled ≤ q.pulled
-
 -- ---- the rack
 
 -- the nth box that is taken
@@ -93,13 +59,10 @@ taken_at kinds before n = box_at (taken_for kinds before) n
 
 -- The first box of each kind in turn, which was there, was taken from the rack. It has the boxes
 -- that weren't taken, in their order, and then the taken ones in the order in which they were
--- taken.
+-- taken: the same ones, blank again, none of whose counts has fallen.
 pub record GivesBack (kinds : List Kind) (before after : List BoxPicture) : Type 0 where
   pub stock : HasStock kinds before
-  pub given : List BoxPicture
-  pub rack : after ≡ left_after kinds before ++ given
-  pub count : length given ≡ length kinds
-  pub each : (n : ℕ) → n < length kinds → IsBlankAgain (taken_at kinds before n) (box_at given n)
+  pub back : PutsBehind IsBlankAgain (taken_for kinds before) (left_after kinds before) after
 
 -- all boxes were taken and given back, or none was touched
 abbrev pub LeavesRack : List Kind → List BoxPicture → List BoxPicture → Type 0
@@ -109,15 +72,8 @@ LeavesRack kinds before after = GivesBack kinds before after ⊎ (after ≡ befo
 -- were given back.
 pub record RunsPlan (specs : List Spec) (kept : List Kind) (before after ended : List BoxPicture)
     : Type 0 where
-  pub count : length ended ≡ length specs + length kept
-  pub ran : (n : ℕ) → n < length specs
-      → RanWith (spec_at specs n) (taken_at (kinds_taken specs kept) before n) (box_at ended n)
-  pub ran_kept : (n : ℕ) → length specs ≤ n → n < length ended
-      → RanKept (taken_at (kinds_taken specs kept) before n) (box_at ended n)
-  pub given : List BoxPicture
-  pub rack : after ≡ left_after (kinds_taken specs kept) before ++ given
-  pub given_count : length given ≡ length ended
-  pub unloaded : (n : ℕ) → n < length ended → Unloads (box_at ended n) (box_at given n)
+  pub boxes : AreRun specs (taken_for (kinds_taken specs kept) before) ended
+  pub back : PutsBehind Unloads ended (left_after (kinds_taken specs kept) before) after
 
 -- ---- the ends, where R says which lists of boxes a run may have left
 
@@ -176,6 +132,12 @@ PlanFaultHolds (end.Stuck k) B R = B (StuckWith R k)
 PlanFaultHolds (end.BadGrowth k) B R = B (FlawedWith R k)
 PlanFaultHolds end.Memory B R = ⊤
 
+-- what a run gave that came to the chunks of the last of the first nodes, or to a fault
+pub record GivesPlan (B : (Begun → Type 0) → Type 0) (R : List BoxPicture → Type 0) (nodes : ℕ)
+    (r : Result (Vec Table Global) PlanFault) : Type 0 where
+  pub rows : IfOk r (λ chunks. B (GivesRows R nodes chunks.items))
+  pub fault : IfErr r (λ f. PlanFaultHolds f B R)
+
 -- ---- what a run of a plan gives, by the boxes of a rack before and after it
 
 module _ (p : PlanGraph) (before after : List BoxPicture) where
@@ -186,3 +148,12 @@ module _ (p : PlanGraph) (before after : List BoxPicture) where
   abbrev pub PlanFails : PlanFault → Type 0
   PlanFails f = PlanFaultHolds f (GraphBegins p.form (kinds_taken p.specs.items p.kept))
       (RunsPlan p.specs.items p.kept before after)
+
+-- A plan was run, and came to this, or to a fault. Its boxes were given back, or none was touched.
+pub record PlanEnds {A : Type 0} (p : PlanGraph)
+    (Gives : (before after : List BoxPicture) → A → Type 0) (r : Result A PlanFault)
+    (before after : List BoxPicture) : Type 0 where
+  pub rack : LeavesRack (kinds_taken p.specs.items p.kept) before after
+  pub blank : All IsBlank after
+  pub gives : IfOk r (Gives before after)
+  pub fault : IfErr r (PlanFails p before after)

@@ -4,9 +4,9 @@ ghost use Rattle.chunk_data.specs.Places.{Changes};
 ghost use Rattle.query_model.specs.Kinds.{kind_of};
 ghost use Rattle.proc_api.specs.Names.{IsBlank, Loads, Unloads, is_of, no_box};
 ghost use Rattle.exec_laws.specs.Runs.{box_at};
-ghost use Rattle.plan_run.specs.Plans.{kinds_taken, spec_at};
+ghost use Rattle.plan_run.specs.Boxes.{EachBox, IsStill, LoadsFirst, PutsBehind, spec_at};
+ghost use Rattle.plan_run.specs.Plans.{kinds_taken};
 ghost use Rattle.plan_run.specs.Stock.{first_box_of, without_first_box, taken_for, left_after, HasStock};
-ghost use Rattle.plan_run.specs.Steps.{AreStill, GivesUnloaded, LoadsFirst, UnloadsFirst};
 
 use chunk_data::{List, Memory};
 use proc_api::{LoadRefusal, Processor, Rack};
@@ -61,18 +61,14 @@ fn take_next(rack: &mut Rack, kind: Kind, boxes: &mut Vec<Box<dyn Processor + Se
 }
 
 /// Loads the first boxes, each with its spec, until there is no memory for it.
-pub(crate) fn load_boxes(
-    boxes: &mut Vec<Box<dyn Processor + Send>>,
-    specs: Vec<Spec>,
-) -> Result<(), Memory>
-    requires blank { All IsBlank (map (λ b. seen b) boxes.old.items) }
+pub(crate) fn load_boxes<P: Processor>(boxes: &mut Vec<P>, specs: Vec<Spec>) -> Result<(), Memory>
+    requires blank { All IsBlank (map P.seen boxes.old.items) }
     requires enough { length specs.items ≤ length boxes.old.items }
     requires kinds { (n : ℕ) → n < length specs.items → kind_of (spec_at specs.items n)
-        ≡ (box_at (map (λ b. seen b) boxes.old.items) n).kind }
+        ≡ (box_at (map P.seen boxes.old.items) n).kind }
     ensures ok { OnOk result (LoadsFirst (length specs.items) specs.items
-        (map (λ b. seen b) boxes.old.items) (map (λ b. seen b) boxes.new.items)) }
-    ensures still { AreStill (map (λ b. seen b) boxes.old.items)
-        (map (λ b. seen b) boxes.new.items) }
+        (map P.seen boxes.old.items) (map P.seen boxes.new.items)) }
+    ensures still { EachBox IsStill (map P.seen boxes.old.items) (map P.seen boxes.new.items) }
 {
     let mut specs = specs;
     for i in 0..specs.len() {
@@ -81,26 +77,17 @@ pub(crate) fn load_boxes(
     Ok(())
 }
 
-fn load_at(boxes: &mut Vec<Box<dyn Processor + Send>>, i: usize, spec: Spec) -> Result<(), Memory>
+/// Loads a blank box with a spec of its kind, which only want of memory refuses.
+fn load_at<P: Processor>(boxes: &mut Vec<P>, i: usize, spec: Spec) -> Result<(), Memory>
     requires in_range { i < length boxes.old.items }
-    requires blank { IsBlank (box_at (map (λ b. seen b) boxes.old.items) i) }
-    requires of_kind { kind_of spec ≡ (box_at (map (λ b. seen b) boxes.old.items) i).kind }
+    requires blank { IsBlank (box_at (map P.seen boxes.old.items) i) }
+    requires of_kind { kind_of spec ≡ (box_at (map P.seen boxes.old.items) i).kind }
     ensures ok { OnOk result (Changes no_box i (λ p q. Loads p spec q)
-        (map (λ b. seen b) boxes.old.items) (map (λ b. seen b) boxes.new.items)) }
+        (map P.seen boxes.old.items) (map P.seen boxes.new.items)) }
     ensures unchanged { OnErr result (Changes no_box i (λ p q. q ≡ p)
-        (map (λ b. seen b) boxes.old.items) (map (λ b. seen b) boxes.new.items)) }
+        (map P.seen boxes.old.items) (map P.seen boxes.new.items)) }
 {
-    load_box(&mut boxes[i], spec)
-}
-
-/// Loads a blank box of the spec's kind, which only want of memory refuses.
-fn load_box(b: &mut Box<dyn Processor + Send>, spec: Spec) -> Result<(), Memory>
-    requires blank { IsBlank (seen b.old) }
-    requires of_kind { kind_of spec ≡ (seen b.old).kind }
-    ensures ok { OnOk result (Loads (seen b.old) spec (seen b.new)) }
-    ensures unchanged { OnErr result (seen b.new ≡ seen b.old) }
-{
-    match b.load(spec) {
+    match boxes[i].load(spec) {
         Ok(()) => Ok(()),
         Err(LoadRefusal::Memory) => Err(Memory),
         Err(LoadRefusal::NotBlank) => unreachable!(),
@@ -108,40 +95,32 @@ fn load_box(b: &mut Box<dyn Processor + Send>, spec: Spec) -> Result<(), Memory>
     }
 }
 
-/// Unloads the boxes, and puts them behind those of the rack, in order.
-pub(crate) fn give_back(rack: &mut Rack, boxes: Vec<Box<dyn Processor + Send>>)
-    requires { length rack.old.boxes.items + length boxes.items ≤ vec_capacity rack.old.boxes }
-    ensures { GivesUnloaded (map (λ b. seen b) boxes.items) (map (λ b. seen b) rack.old.boxes.items)
-        (map (λ b. seen b) rack.new.boxes.items) }
-{
-    let mut boxes = boxes;
-    unload_boxes(&mut boxes);
-    put_back(rack, boxes);
-}
-
 /// Unloads each of the boxes, so that it is blank whatever it was.
-pub fn unload_boxes(boxes: &mut Vec<Box<dyn Processor + Send>>)
-    ensures unloaded { UnloadsFirst (length boxes.old.items) (map (λ b. seen b) boxes.old.items)
-        (map (λ b. seen b) boxes.new.items) }
-    ensures blank { All IsBlank (map (λ b. seen b) boxes.new.items) }
+pub fn unload_boxes<P: Processor>(boxes: &mut Vec<P>)
+    ensures unloaded { EachBox Unloads (map P.seen boxes.old.items) (map P.seen boxes.new.items) }
+    ensures blank { All IsBlank (map P.seen boxes.new.items) }
 {
     for i in 0..boxes.len() {
         unload_at(boxes, i);
     }
 }
 
-fn unload_at(boxes: &mut Vec<Box<dyn Processor + Send>>, i: usize)
+fn unload_at<P: Processor>(boxes: &mut Vec<P>, i: usize)
     requires { i < length boxes.old.items }
-    ensures { Changes no_box i Unloads (map (λ b. seen b) boxes.old.items)
-        (map (λ b. seen b) boxes.new.items) }
+    ensures { Changes no_box i Unloads (map P.seen boxes.old.items) (map P.seen boxes.new.items) }
 {
-    unload_box(&mut boxes[i]);
+    boxes[i].unload();
 }
 
-fn unload_box(b: &mut Box<dyn Processor + Send>)
-    ensures { Unloads (seen b.old) (seen b.new) }
+/// Unloads the boxes, and puts them behind those of the rack, in order.
+pub(crate) fn give_back(rack: &mut Rack, boxes: Vec<Box<dyn Processor + Send>>)
+    requires { length rack.old.boxes.items + length boxes.items ≤ vec_capacity rack.old.boxes }
+    ensures { PutsBehind Unloads (map (λ b. seen b) boxes.items)
+        (map (λ b. seen b) rack.old.boxes.items) (map (λ b. seen b) rack.new.boxes.items) }
 {
-    b.unload();
+    let mut boxes = boxes;
+    unload_boxes(&mut boxes);
+    put_back(rack, boxes);
 }
 
 /// Puts blank boxes behind those of the rack, in room that is there.

@@ -1,11 +1,11 @@
-ghost use Rattle.std.specs.Prelude.{◌≡◌, ℕ, ◌+◌, ◌<◌, ◌≤◌, [], List, length, map, false, vec_capacity, IfOk, IfErr};
+ghost use Rattle.std.specs.Prelude.{◌≡◌, ℕ, ◌+◌, ◌<◌, ◌≤◌, [], length, map, false, vec_capacity};
 ghost use Rattle.std.specs.List.{All};
 ghost use Rattle.proc_api.specs.Names.{handed_out_by, IsBlank};
 ghost use Rattle.proc_api.specs.Reserves.{AreStarting};
-ghost use Rattle.exec_laws.specs.Runs.{IsBorn, box_at};
+ghost use Rattle.exec_laws.specs.Names.{GivenBack, IsBorn, box_at};
 ghost use Rattle.pipeline_exec.specs.Ends.{Begun, ExecEndHolds};
-ghost use Rattle.plan_run.specs.Plans.{kinds_in, kinds_taken, GraphBegins, MayRun, MayRunPlan, PlanFails, PlanFaultHolds, PlanGivesRows, GivesRows, GivesBack, LeavesRack, ReadsByKind};
-ghost use Rattle.plan_run.specs.Steps.{AreLater, AreStill, IsStill, IsThese, RunsLoaded, RunsTaken};
+ghost use Rattle.plan_run.specs.Boxes.{AreRun, EachBox, IsLater, IsStill, LeavesStill};
+ghost use Rattle.plan_run.specs.Plans.{kinds_in, kinds_taken, GivesPlan, GraphBegins, MayRun, MayRunPlan, PlanEnds, PlanGivesRows, ReadsByKind};
 
 use crate::boxes::{give_back, load_boxes, take_boxes};
 use chunk_data::{Chunk, List, Memory};
@@ -65,16 +65,10 @@ pub fn run_plan<R: AllocGlobal + Threads + Wait + Sync>(
 ) -> Result<Vec<Chunk>, PlanFault>
     requires runnable { MayRunPlan plan workers
         (map (λ b. seen (b.vtable, b.value)) rack.old.boxes.items) }
-    ensures rack { LeavesRack (kinds_taken plan.specs.items plan.kept)
+    ensures { PlanEnds plan
+        (λ before after chunks. PlanGivesRows plan before after chunks.items) result
         (map (λ b. seen (b.vtable, b.value)) rack.old.boxes.items)
         (map (λ b. seen (b.vtable, b.value)) rack.new.boxes.items) }
-    ensures blank { All IsBlank (map (λ b. seen (b.vtable, b.value)) rack.new.boxes.items) }
-    ensures rows { IfOk result (λ chunks. PlanGivesRows plan
-        (map (λ b. seen (b.vtable, b.value)) rack.old.boxes.items)
-        (map (λ b. seen (b.vtable, b.value)) rack.new.boxes.items) chunks.items) }
-    ensures fault { IfErr result (PlanFails plan
-        (map (λ b. seen (b.vtable, b.value)) rack.old.boxes.items)
-        (map (λ b. seen (b.vtable, b.value)) rack.new.boxes.items)) }
 {
     // The room for the boxes is there before one is taken.
     match Vec::with_capacity(rt.alloc(), plan.specs.len() + plan.kept.len()) {
@@ -94,13 +88,9 @@ fn run_in<R: AllocGlobal + Threads + Wait + Sync>(
     requires runnable { MayRunPlan plan workers (map (λ b. seen b) rack.old.boxes.items) }
     requires empty { room.items ≡ [] }
     requires room { length plan.specs.items + length plan.kept ≤ vec_capacity room }
-    ensures rack { GivesBack (kinds_taken plan.specs.items plan.kept)
+    ensures { PlanEnds plan
+        (λ before after chunks. PlanGivesRows plan before after chunks.items) result
         (map (λ b. seen b) rack.old.boxes.items) (map (λ b. seen b) rack.new.boxes.items) }
-    ensures rows { IfOk result (λ chunks. PlanGivesRows plan
-        (map (λ b. seen b) rack.old.boxes.items) (map (λ b. seen b) rack.new.boxes.items)
-        chunks.items) }
-    ensures fault { IfErr result (PlanFails plan (map (λ b. seen b) rack.old.boxes.items)
-        (map (λ b. seen b) rack.new.boxes.items)) }
 {
     let mut boxes = room;
     take_boxes(rack, &plan.specs, &plan.kept, &mut boxes);
@@ -121,16 +111,11 @@ fn run_taken<R: AllocGlobal + Threads + Wait + Sync>(
         ≡ kinds_taken plan.specs.items plan.kept }
     requires plan { MayRun (length plan.specs.items)
         (length plan.specs.items + length plan.kept) plan.form workers }
-    ensures later { AreLater (map (λ b. seen b) boxes.items)
+    ensures later { EachBox IsLater (map (λ b. seen b) boxes.items)
         (map (λ b. seen b) result.boxes.items) }
-    ensures rows { IfOk result.result (λ chunks. GraphBegins plan.form
-        (kinds_taken plan.specs.items plan.kept) (GivesRows
-        (RunsTaken plan.specs.items (map (λ b. seen b) boxes.items)
-        (map (λ b. seen b) result.boxes.items)) (length plan.specs.items) chunks.items)) }
-    ensures fault { IfErr result.result (λ f. PlanFaultHolds f
-        (GraphBegins plan.form (kinds_taken plan.specs.items plan.kept))
-        (RunsTaken plan.specs.items (map (λ b. seen b) boxes.items)
-        (map (λ b. seen b) result.boxes.items))) }
+    ensures gives { GivesPlan (GraphBegins plan.form (kinds_taken plan.specs.items plan.kept))
+        (LeavesStill (AreRun plan.specs.items (map (λ b. seen b) boxes.items))
+        (map (λ b. seen b) result.boxes.items)) (length plan.specs.items) result.result }
 {
     let PlanGraph {
         specs,
@@ -159,15 +144,11 @@ fn run_loaded<R: AllocGlobal + Threads + Wait + Sync>(
     requires starting { AreStarting form.reserves (map (λ b. seen b) boxes.items) }
     requires nodes_within { nodes ≤ length boxes.items }
     requires form { MayRun nodes (length boxes.items) form workers }
-    ensures later { AreLater (map (λ b. seen b) boxes.items)
+    ensures later { EachBox IsLater (map (λ b. seen b) boxes.items)
         (map (λ b. seen b) result.boxes.items) }
-    ensures rows { IfOk result.result (λ chunks. GraphBegins form
-        (kinds_in (map (λ b. seen b) boxes.items)) (GivesRows
-        (RunsLoaded (map (λ b. seen b) boxes.items) (map (λ b. seen b) result.boxes.items))
-        nodes chunks.items)) }
-    ensures fault { IfErr result.result (λ f. PlanFaultHolds f
-        (GraphBegins form (kinds_in (map (λ b. seen b) boxes.items)))
-        (RunsLoaded (map (λ b. seen b) boxes.items) (map (λ b. seen b) result.boxes.items))) }
+    ensures gives { GivesPlan (GraphBegins form (kinds_in (map (λ b. seen b) boxes.items)))
+        (LeavesStill (GivenBack (map (λ b. seen b) boxes.items))
+        (map (λ b. seen b) result.boxes.items)) nodes result.result }
 {
     let GraphForm {
         ranks,
@@ -187,24 +168,18 @@ fn run_loaded<R: AllocGlobal + Threads + Wait + Sync>(
 }
 
 /// What a run gave that ended so, whatever its graph, of which the first nodes were loaded.
-fn result_of(
-    boxes: &mut Vec<Box<dyn Processor + Send>>,
+fn result_of<P: Processor>(
+    boxes: &mut Vec<P>,
     nodes: usize,
     end: ExecEnd,
 ) -> Result<Vec<Chunk>, PlanFault>
     requires some_nodes { 1 ≤ nodes }
     requires nodes_within { nodes ≤ length boxes.old.items }
-    requires born { (n : ℕ) → n < nodes
-        → IsBorn (box_at (map (λ b. seen b) boxes.old.items) n) }
-    requires end { (b : Begun) × ExecEndHolds end b (map (λ b. seen b) boxes.old.items) }
-    ensures still { AreStill (map (λ b. seen b) boxes.old.items)
-        (map (λ b. seen b) boxes.new.items) }
-    ensures rows { (b : Begun) → ExecEndHolds end b (map (λ b. seen b) boxes.old.items)
-        → IfOk result (λ chunks. GivesRows (IsThese (map (λ b. seen b) boxes.old.items)) nodes
-        chunks.items b) }
-    ensures fault { (b : Begun) → ExecEndHolds end b (map (λ b. seen b) boxes.old.items)
-        → IfErr result
-        (λ f. PlanFaultHolds f (λ P. P b) (IsThese (map (λ b. seen b) boxes.old.items))) }
+    requires born { (n : ℕ) → n < nodes → IsBorn (box_at (map P.seen boxes.old.items) n) }
+    requires end { (b : Begun) × ExecEndHolds end b (map P.seen boxes.old.items) }
+    ensures still { EachBox IsStill (map P.seen boxes.old.items) (map P.seen boxes.new.items) }
+    ensures gives { (b : Begun) → ExecEndHolds end b (map P.seen boxes.old.items)
+        → GivesPlan (λ P. P b) (λ ended. ended ≡ map P.seen boxes.old.items) nodes result }
 {
     match end {
         ExecEnd::Done => Ok(take_rows_at(boxes, nodes - 1)),
@@ -219,30 +194,20 @@ fn result_of(
     }
 }
 
-fn kind_at(boxes: &Vec<Box<dyn Processor + Send>>, n: usize) -> Kind
+fn kind_at<P: Processor>(boxes: &Vec<P>, n: usize) -> Kind
     requires { n < length boxes.now.items }
-    ensures kind { result ≡ (box_at (map (λ b. seen b) boxes.now.items) n).kind }
-    ensures reader { ReadsByKind (box_at (map (λ b. seen b) boxes.now.items) n) }
+    ensures kind { result ≡ (box_at (map P.seen boxes.now.items) n).kind }
+    ensures reader { ReadsByKind (box_at (map P.seen boxes.now.items) n) }
 {
     boxes[n].kind()
 }
 
-fn take_rows_at(boxes: &mut Vec<Box<dyn Processor + Send>>, n: usize) -> Vec<Chunk>
+fn take_rows_at<P: Processor>(boxes: &mut Vec<P>, n: usize) -> Vec<Chunk>
     requires in_range { n < length boxes.old.items }
-    requires there { (box_at (map (λ b. seen b) boxes.old.items) n).work.handed_out ≡ false }
-    ensures still { AreStill (map (λ b. seen b) boxes.old.items)
-        (map (λ b. seen b) boxes.new.items) }
-    ensures rows { result.items ≡ handed_out_by
-        (box_at (map (λ b. seen b) boxes.old.items) n).kind
-        (box_at (map (λ b. seen b) boxes.old.items) n).work }
+    requires there { (box_at (map P.seen boxes.old.items) n).work.handed_out ≡ false }
+    ensures still { EachBox IsStill (map P.seen boxes.old.items) (map P.seen boxes.new.items) }
+    ensures rows { result.items ≡ handed_out_by (box_at (map P.seen boxes.old.items) n).kind
+        (box_at (map P.seen boxes.old.items) n).work }
 {
-    take_rows(&mut boxes[n])
-}
-
-fn take_rows(b: &mut Box<dyn Processor + Send>) -> Vec<Chunk>
-    requires { (seen b.old).work.handed_out ≡ false }
-    ensures still { IsStill (seen b.old) (seen b.new) }
-    ensures rows { result.items ≡ handed_out_by (seen b.old).kind (seen b.old).work }
-{
-    b.take_rows()
+    boxes[n].take_rows()
 }

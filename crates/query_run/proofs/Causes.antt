@@ -1,13 +1,24 @@
 -- Why a plan gave no text, as what is said of the command, its part and the box that served it.
-use Rattle.query_run.proofs.Imports.{AreLawfulOver, BoxPicture, Checked, Command, DraftNode, FailsAtPart, FailsWith, Files, GraphBegins, GraphForm, HasNoReader, IfSome, IsListNamed, IsLongFile, IsPartNamed, IsPlanFault, IsRunnable, IsSourceKind, KeepsBehind, Kind, LeavesPlan, LeavesRack, List, OfPart, Option, PartFailsFor, PartFailure, PartName, PartSpec, PlanFailsFor, PlanFailure, PlanFault, PlanFaultHolds, RanPlan, RanWith, RunsPlan, Some, Spec, Tells, WorkFault, arith, bad_line_in, both_ways, box_at, cases_lt, failure_of, file_bytes, inl, inr, kind_of, kinds_for, kinds_reserved, length, length-map, part_bad_place, plan_nodes, plan_of, refl, reserves_from, specs_in, subst, sym, taken_at, true, used_part, ℕ, ◌<◌, ◌∙◌, ◌≡◌}
-use Rattle.query_model.specs.declared.processor_spec.Kind.TheVariants as kind
-use Rattle.query_model.specs.declared.processor_spec.Spec.TheVariants as spec
+use Rattle.query_run.proofs.Imports.{AreLawfulOver, BoxPicture, Checked, Command, DraftNode, FailsAtPart, FailsWith, FileHas, FileRead, Files, GraphBegins, GraphForm, HasNoReader, IfSome, IsListNamed, IsLongFile, IsPartNamed, IsPlanFault, IsRunnable, IsSourceKind, KeepsBehind, Kind, LeavesPlan, LeavesRack, List, NoFile, OfFile, OfPart, Option, PartFailsFor, PartFailure, PartFile, PartName, PartSpec, PartsFile, PlanFailsFor, PlanFailure, PlanFault, PlanFaultHolds, RanPlan, RanWith, ReadsList, ReadsPart, RunsPlan, Some, Spec, Tells, WorkFault, arith, bad_line_in, both_ways, box_at, cases_lt, failure_of, file_bytes, file_read, inl, inr, kind_of, kinds_for, kinds_reserved, length, length-map, part_bad_place, plan_nodes, plan_of, refl, reserves_from, specs_in, subst, sym, taken_at, true, used_part, ℕ, ◌<◌, ◌≡◌, ◌⊎◌, None}
 use Rattle.proc_api.specs.declared.status.WorkFault.TheVariants as fault
 use Rattle.plan_run.specs.declared.run.PlanFault.TheVariants as end
 use Rattle.query_run.specs.declared.ending.PartFailure.TheVariants as part
 use Rattle.query_run.proofs.Flaws.{flawed-unlawful}
-use Rattle.query_run.proofs.Grown.{ReadsItsName, formed, names_of, reads-its-name, serves}
+use Rattle.query_run.proofs.Grown.{HasItsName, ReadsItsName, formed, names_of, reads-its-name, serves}
 use Rattle.query_run.proofs.Plans.{AreCopies, RanCopies, ended-files, ended-lawful, kinds-for-same, loaded-kind, ran-at}
+
+-- ---- what a kind reads
+
+-- a spec reads what its kind does
+kind-reads : (s : Spec)
+    → FileHas (λ part. ReadsPart (kind_of s)) (λ list. ReadsList (kind_of s)) (file_read (Some s))
+kind-reads s = grind arith
+
+reads-one : (k : Kind) → ReadsPart k → ReadsList k → ⊥
+reads-one k part list = grind arith
+
+source-kind : (k : Kind) → ReadsPart k ⊎ ReadsList k → IsSourceKind k
+source-kind k reads = grind arith
 
 -- ---- a plan's faults
 
@@ -54,13 +65,11 @@ module _ {c : Command} {q : Checked} {before : List BoxPicture} {nodes : List Dr
     taken = taken_at (kinds_for nodes) before node
 
     abbrev given : BoxPicture
-    given = box_at run.given node
+    given = box_at run.back.given node
 
     -- it was loaded
     ran-with : (s : Spec) × RanWith s taken box
-    ran-with =
-        let first = ran-at so node in
-        grind (arith, cases_lt, first, run.ran_kept, length-map, both_ways)
+    ran-with = search (arith, ran-at, cases_lt, length-map, both_ways)
 
     -- a box that keeps a fault of a reader is a source's
     at-source : (HasNoReader box → ⊥) → IsSourceKind box.kind
@@ -78,18 +87,18 @@ module _ {c : Command} {q : Checked} {before : List BoxPicture} {nodes : List Dr
     }
 
     given_faults : given.faults ≡ box.faults
-    given_faults = grind (arith, run.unloaded)
+    given_faults = grind (arith, run.back.boxes.each)
 
     given_pendings : given.pendings ≡ box.pendings
-    given_pendings = (run.unloaded node lt).counts.pendings
+    given_pendings = (run.back.boxes.each node lt).counts.pendings
 
     -- what a lawful box says of what it reads, over the files that it tells
     module _ (files : Files) (honest : AreLawfulOver files before) where
       tells : (P : PartSpec → Files → Type 0) (Q : Type 0) → IsSourceKind box.kind
           → ((part : PartSpec) → IsPartNamed c q files (names node) (used_part part)
-          → part.header ≡ c.header → P part files → kind.Csv ≡ box.kind → Q)
+          → part.header ≡ c.header → P part files → ReadsPart box.kind → Q)
           → ((list : PartSpec) → IsListNamed c q (names node) 0 list.path → P list files
-          → kind.List ≡ box.kind → Q)
+          → ReadsList box.kind → Q)
           → (box.lawful ≡ true → IfSome box.files (λ files. OfPart box.spec (λ part. P part files)))
           → Q
       tells P Q source csv list due =
@@ -104,11 +113,20 @@ module _ {c : Command} {q : Checked} {before : List BoxPicture} {nodes : List Dr
           told : box.files ≡ Some files
           told = ended-files so files honest node lt source
 
+          each : (r : FileRead) → HasItsName c q files (names node) r
+              → OfFile r (λ part. P part files)
+              → FileHas (λ part. ReadsPart box.kind) (λ list. ReadsList box.kind) r → Q
+          each NoFile name d k = absurd d
+          each (PartFile part) name d k = csv part name.0 name.1 d k
+          each (PartsFile l) name d k = list l name d k
+
           go : (o : Option Spec) → box.spec ≡ o → ReadsItsName c q files (names node) o
               → OfPart o (λ part. P part files) → Q
-          go (Some (spec.Csv part)) e s d = csv part s.0 s.1 d (loaded (spec.Csv part) e)
-          go (Some (spec.List l)) e s d = list l s d (loaded (spec.List l) e)
-          go o e s d = absurd d
+          go None e name d = absurd d
+          go (Some s) e name d =
+              each (file_read (Some s)) name d
+              (subst (λ k. FileHas (λ part. ReadsPart k) (λ list. ReadsList k) (file_read (Some s)))
+              (loaded s e) (kind-reads s))
 
   leaves : LeavesRack (kinds_for nodes) before after → LeavesPlan c q before after
   leaves left = subst (λ ks. LeavesRack ks before after)
@@ -139,7 +157,7 @@ module _ {c : Command} {q : Checked} {before : List BoxPicture} {nodes : List Dr
       (λ list named long is. (list.path, inl named, long)) g.holds.grown.holds.keeps.is_due)
   plan-cause (end.Fault node (fault.Bad place)) left g =
       let of_kind = g.holds.grown.holds.keeps.holds.0 in
-      let source = subst IsSourceKind (sym of_kind) tt in
+      let source = source-kind _ (inl of_kind) in
       fails-at g source (part.Bad place) (λ files told.
       tells g files told
       (λ part files. part_bad_place part.header part.types files part.path ≡ Some place) _ source
@@ -148,15 +166,15 @@ module _ {c : Command} {q : Checked} {before : List BoxPicture} {nodes : List Dr
         named,
         subst (λ b. part_bad_place b part.types files part.path ≡ Some place) header bad,
       ))
-      (λ list named bad is. let wrong : kind.List ≡ kind.Csv = is ∙ of_kind in absurd cc)
+      (λ list named bad is. absurd (reads-one _ of_kind is))
       (λ _. g.holds.grown.holds.keeps.holds.1))
   plan-cause (end.Fault node (fault.BadList line)) left g =
       let of_kind = g.holds.grown.holds.keeps.holds.0 in
-      let source = subst IsSourceKind (sym of_kind) tt in
+      let source = source-kind _ (inr of_kind) in
       fails-at g source (part.BadList line) (λ files told.
       tells g files told (λ part files. bad_line_in (file_bytes files part.path) ≡ Some line) _
       source
-      (λ part named header bad is. let wrong : kind.Csv ≡ kind.List = is ∙ of_kind in absurd cc)
+      (λ part named header bad is. absurd (reads-one _ is of_kind))
       (λ list named bad is. (list.path, named, bad)) (λ _. g.holds.grown.holds.keeps.holds.1))
   plan-cause (end.Stuck k) left g = record {
     runnable = runnable;

@@ -1,6 +1,5 @@
 -- The query that was read of a command and checked, and the plan that it has.
-use Rattle.query_run.proofs.Imports.{Bool, BothOrNone, Checked, Command, FromColumn, IsAccepted, IsChecked, IsCheckedCommand, IsReadFrom, IsShape, IsTypedQuery, IsTypedSelect, IsWithinLimits, Kind, List, NamesFewPaths, None, Option, Query, Schema, Shape, analysable_of_read, ap, are_grouped, are_some, are_tested, arith, false, few_sources, from_types, is_grouped, is_some, map, need_by_clauses, one_tree, option_map, query_boxes, query_tables, query_tree, refl, refusal_of, schemas_of, stock_of, tables_used, typed-select, use_of, used_tables, ◌||◌, ◌≡◌, ◌≤◌}
-use Rattle.query_model.specs.declared.processor_spec.Kind.TheVariants as kind
+use Rattle.query_run.proofs.Imports.{Bool, BothOrNone, Checked, Command, FromColumn, IsAccepted, IsChecked, IsCheckedCommand, IsReadFrom, IsShape, IsTypedQuery, IsTypedSelect, IsWithinLimits, Kind, List, NamesFewPaths, None, Option, Query, Schema, Shape, analysable_of_read, ap, are_grouped, are_some, are_tested, arith, false, from_types, is_grouped, is_some, map, need_by_clauses, one_tree, option_map, query_boxes, query_tables, query_tree, refl, refusal_of, schemas_of, stock_of, tables_used, typed-select, use_of, used_tables, ◌||◌, ◌≡◌, ◌≤◌}
 
 -- ---- what was read and checked
 
@@ -33,9 +32,7 @@ same_tables command p q a b =
 -- a checked command's query is typed by the columns of its tables
 pub typed_by_tables : (command : Command) (checked : Checked) → IsCheckedCommand command checked
     → IsTypedSelect command.tables checked
-typed_by_tables command checked h =
-    typed-select h.query (schemas_of command) checked h.accepted h.is command.tables refl
-    (analysable_of_read h.query command.query h.read) h.typed
+typed_by_tables command checked h = search (arith, typed-select, analysable_of_read)
 
 -- ---- what it needs
 
@@ -98,6 +95,4 @@ module _ (command : Command) (p q : Checked) (a : IsCheckedCommand command p)
 pub stock_serves : (command : Command) (q : Checked) → IsWithinLimits command
     → IsCheckedCommand command q → NamesFewPaths command q → (k : Kind)
     → query_boxes q command.tables command.threads k ≤ stock_of k
-stock_serves command q within h few k =
-    let few_used = few_sources command.tables (used_tables q) few in
-    grind (arith, need_by_clauses command.tables command.threads q k, few_used)
+stock_serves command q within h few k = search (arith, need_by_clauses)

@@ -1,8 +1,6 @@
 -- From the chunks that a plan's graph gives to the text of one answer of a command.
-use Rattle.query_run.proofs.Imports.{All, All-append, AllPartsValid, AreLawfulOver, Bool, BoxPicture, Checked, ColumnType, Command, DraftNode, Files, GivesText, GrowsLawfully, HasEnded, HasEnoughRows, HasGrown, HasPulled, IfSome, IsCertain, IsDone, IsPlain, IsRunnable, IsUngrown, IsValidUsed, KeepsBehind, Kind, List, MakesText, NodePort, None, Option, PulledMore, PullsItsFlow, QueryAnswered, Row, RunsPlan, SelectPlan, Shape, Some, SortKey, Spec, Stream, [], answer_text, ap, arith, body_nodes, born_wires, both-valid, box_at, chunk_rows, collect_node, database, false, flat_map, flow, get_or-map, grown-lists, handed_out_by, heading, if◌then◌else◌, inl, inr, join_use, join_valid, joined-valid, kind_of, kinds_reserved, length, length-append, length-map, lists-valid, map, needed_valid, order_of, parts_used, plan_nodes, plan_of, plan_valid, planned-ended, ports_of, pulled_rows, refl, reserves_from, rows_text, rows_together, same_kind, shape_of, shape_types, since-pulled, source_types, sources_of_files, spec_at, specs_in, stream_pulled_at, stream_rows, subst, sym, table-valid, true, ℕ, ◌++◌, ◌+◌, ◌-◌, ◌<◌, ◌∙◌, ◌∷◌, ◌≡◌, ◌⊎◌}
+use Rattle.query_run.proofs.Imports.{All, All-append, AllPartsValid, AreLawfulOver, Bool, BoxPicture, Checked, ColumnType, Command, DraftNode, Files, GivesText, GrowsLawfully, HasEnded, HasEnoughRows, HasGrown, HasPulled, IfSome, IsCertain, IsDone, IsPlain, IsRunnable, IsUngrown, IsValidUsed, KeepsBehind, Kind, List, MakesText, NodePort, None, Option, PulledMore, PullsItsFlow, QueryAnswered, Row, RunsPlan, SelectPlan, Shape, Some, SortKey, Spec, Stream, [], answer_text, ap, arith, body_nodes, born_wires, both-valid, box_at, chunk_rows, collect_node, database, false, flat_map, flow, get_or-map, grown-lists, grown_kind, handed_out_by, heading, if◌then◌else◌, inl, inr, join_use, join_valid, joined-valid, kind_of, kinds_reserved, length, length-append, length-map, lists-valid, map, needed_valid, no_spec, order_of, parts_used, plan_nodes, plan_of, plan_valid, planned-ended, ports_of, pulled_rows, refl, reserves_from, row_of, rows_text, rows_together, same_kind, shape_of, shape_types, since-pulled, source_types, sources_of_files, spec_at, specs_in, stream_pulled_at, stream_rows, subst, sym, table-valid, true, ℕ, ◌++◌, ◌+◌, ◌-◌, ◌<◌, ◌∙◌, ◌∷◌, ◌≡◌, ◌⊎◌, run-count}
 use Rattle.query_model.specs.declared.processor_spec.Kind.TheVariants as kind
-use Rattle.query_model.specs.declared.processor_spec.Spec.TheVariants as spec
-use Rattle.query_run.proofs.Causes.{ran}
 use Rattle.query_run.proofs.Commands.{typed_by_tables}
 use Rattle.query_run.proofs.Grown.{formed, grows}
 use Rattle.query_run.proofs.Plans.{AreCopies, RanCopies, ended-kind, loaded-kind, small_plan, stock}
@@ -29,7 +27,7 @@ cut_or_valid : (s : Shape) (from types : List ColumnType) (rows : ℕ) (keys : L
 cut_or_valid s from types rows keys all join e = grind arith
 
 -- a node of another kind than lists
-ungrown-kind : (k : Kind) (s : Spec) → same_kind kind.List k ≡ false
+ungrown-kind : (k : Kind) (s : Spec) → (row_of k).reads_list ≡ false
     → same_kind (kind_of s) k ≡ true → IsUngrown s
 ungrown-kind k s told of = grind arith
 
@@ -76,8 +74,11 @@ module _ {c : Command} {q : Checked} {before after : List BoxPicture} {nodes : L
   nodes_count : length nodes ≡ last + 1
   nodes_count = grind (arith, length-map, count, copies.same)
 
+  boxes_count : length ended ≡ length specs + length kept
+  boxes_count = run-count specs kept before after ended run
+
   in_ended : (n : ℕ) → n < length nodes → n < length ended
-  in_ended n lt = grind (arith, run.count, length-map)
+  in_ended n lt = grind (arith, boxes_count, length-map)
 
   module _ (files : Files) (honest : AreLawfulOver files before) where
     lawfully : GrowsLawfully files nodes (formed nodes).wires (formed nodes).reserves g.gives.boxes
@@ -88,7 +89,7 @@ module _ {c : Command} {q : Checked} {before after : List BoxPicture} {nodes : L
     abbrev has_ended : HasEnded files nodes ended
     has_ended = record {
       more = flat_map born_wires grown.births;
-      count = let lt = in_ended in let all = run.count in
+      count = let lt = in_ended in let all = boxes_count in
           let each = length-map nodes (λ (n : DraftNode). n.spec) in omega (arith, all, each);
       specs = lawfully.specs;
       lawful = lawfully.lawful;
@@ -112,8 +113,8 @@ module _ {c : Command} {q : Checked} {before after : List BoxPicture} {nodes : L
     text_is =
         let lt : last < length nodes = let n = nodes_count in omega (arith, n) in
         let collected = answered.run.collected in
-        let of_kind : (box_at ended last).kind ≡ kind.Collect =
-        sym (loaded-kind so last spec.Collect (in_ended last lt)
+        let of_kind : (box_at ended last).kind ≡ kind_of collect_node.spec =
+        sym (loaded-kind so last collect_node.spec (in_ended last lt)
         collected.loaded) in
         let place : length specs - 1 ≡ last =
         let n = nodes_count in
@@ -157,7 +158,8 @@ module _ {c : Command} {q : Checked} {before after : List BoxPicture} {nodes : L
     ]
 
     -- a kind of which nothing is kept pulled what its nodes did
-    nodes_pulled : (k : Kind) (n : ℕ) → same_kind kind.List k ≡ false → same_kind kind.Csv k ≡ false
+    nodes_pulled : (k : Kind) (n : ℕ) → (row_of k).reads_list ≡ false
+        → same_kind grown_kind k ≡ false
         → pulled_rows k 0 nodes (stream_pulled_at ended has_ended.done.pulled) ≡ n
         → PulledMore k before after (Some n)
     unfolding spec_at
@@ -171,7 +173,7 @@ module _ {c : Command} {q : Checked} {before after : List BoxPicture} {nodes : L
         (rw length-map le) lt)
         (λ i z lt is. (
           ended-kind so i lt
-              ∙ ap kind_of (get_or-map (λ (n : DraftNode). n.spec) nodes i z spec.Collect lt
+              ∙ ap kind_of (get_or-map (λ (n : DraftNode). n.spec) nodes i z no_spec lt
               ∙ ap (λ (n : DraftNode). n.spec) is),
           λ of. subst (λ m. HasPulled (box_at ended i)
               (length (rows_together (stream_rows (map f (ports_of m 0 z.takes))))))
@@ -181,7 +183,7 @@ module _ {c : Command} {q : Checked} {before after : List BoxPicture} {nodes : L
 
     -- nothing is told of sources
     told-kind : (k : Kind)
-        → ((n : ℕ) → same_kind kind.List k ≡ false → same_kind kind.Csv k ≡ false
+        → ((n : ℕ) → (row_of k).reads_list ≡ false → same_kind grown_kind k ≡ false
         → pulled_rows k 0 nodes (stream_pulled_at ended has_ended.done.pulled) ≡ n
         → PulledMore k before after (Some n))
         → IfSome (flow k q (database c.header files c.tables) rows)
@@ -206,13 +208,9 @@ module _ {c : Command} {q : Checked} {before after : List BoxPicture} {nodes : L
       };
       pulled = λ unlimited k taken.
           told-kind k (nodes_pulled k) (answered.pulled unlimited k taken);
-      collected = nodes_pulled kind.Collect (length rows) refl refl answered.collected;
+      collected = nodes_pulled _ (length rows) refl refl answered.collected;
     }
 
   -- what a run of the plan gave is the text of an answer
   pub makes_text : MakesText c q text before after
-  makes_text = record {
-    runnable = runnable;
-    ran = ran after copies runnable keeps ended run;
-    answers = λ files told. flow_told files told;
-  }
+  makes_text = search (arith, flow_told)

@@ -1,5 +1,5 @@
 -- The corollaries of the theorem on how a run ends, and completeness.
-use Rattle.query_run.proofs.Imports.{All, All-contains, Answered, AreRefused, BadPlace, BoxPicture, Checked, Command, Declared, Ending, Ends, EndsFor, EndsUnlawful, Failed, FailsAtPart, Failure, Files, GivesBack, HasBoxes, IsAccepted, IsAnswerable, IsBlank, IsCheckedCommand, IsDueRefusal, IsEither, IsHonest, IsListDeclared, IsListUsed, IsLongFile, IsRefusedFor, IsRun, IsRunnable, IsShort, IsValidList, IsValidUsed, IsWithinLimits, Kind, LackBoxes, LacksBoxes, LeavesBoxes, List, MeanNothing, NameManyPaths, NamesFewPaths, None, OfChecked, OfCommand, OfQuery, Option, PartName, PlanFailsFor, PlanFailure, PulledRows, Query, RanPlan, ReaderFails, Refusal, Refused, Shortage, Some, SucceedsUnless, Untouched, UsedPart, WriteFailed, WritesAnswer, arith, both_ways, boxes_for, command_means, failure_status, inl, inr, kinds_reserved, limits_kept, one_tree, plan_kinds, plan_nodes, plan_of, plan_status, query_status, refl, refused_status, reserves_from, runs-give-back, same_refusal, schemas_of, specs_in, status_of, subst, sym, used_parts, used_tables, ℕ, ◌∙◌, ◌≡◌, ◌≢◌, ◌⊎◌}
+use Rattle.query_run.proofs.Imports.{All, All-contains, Answered, AreRefused, BadPlace, BoxPicture, Checked, Command, Declared, Ending, Ends, EndsFor, EndsUnlawful, Failed, FailsAtPart, Failure, Files, GivesBack, HasBoxes, IsAccepted, IsAnswerable, IsBlank, IsCheckedCommand, IsDueRefusal, IsEither, IsHonest, IsListDeclared, IsListUsed, IsLongFile, IsRefusedFor, IsRun, IsRunnable, IsShort, IsValidList, IsValidUsed, IsWithinLimits, Kind, LackBoxes, LacksBoxes, LeavesBoxes, List, MeanNothing, NameManyPaths, NamesFewPaths, None, OfChecked, OfCommand, OfQuery, Option, PartName, PlanFailsFor, PlanFailure, PulledRows, RanPlan, ReaderFails, Refusal, Refused, Shortage, Some, SucceedsUnless, Untouched, UsedPart, WriteFailed, WritesAnswer, arith, both_ways, boxes_for, command_means, failure_status, inl, inr, kinds_reserved, limits_kept, one_tree, plan_kinds, plan_nodes, plan_of, plan_status, query_status, refl, refused_status, reserves_from, runs-give-back, same_refusal, schemas_of, specs_in, status_of, subst, sym, used_parts, used_tables, ℕ, ◌∙◌, ◌≡◌, ◌≢◌, ◌⊎◌}
 use Rattle.query_model.specs.declared.query.Refusal.TheVariants as refuse
 use Rattle.sql_text.specs.declared.limits.ParseRefusal.TheVariants as parse
 use Rattle.query_run.specs.declared.ending.Refused.TheVariants as refused
@@ -32,11 +32,7 @@ checked_not_refused h o = moved o h (accepted_of h.command h.holds.checked h.hol
 -- what else is true of the query that the words mean
 of_query : {P Q : Command → Checked → Type 0} {words : List (List ℕ)} (h : OfQuery words P)
     → Q h.command h.holds.checked → OfQuery words Q
-of_query h x = record {
-  command = h.command;
-  means = h.means;
-  holds = record { checked = h.holds.checked; is = h.holds.is; holds = x };
-}
+of_query h x = search (arith)
 
 -- what is none isn't some
 clash : {A : Type 0} {o : Option A} {x : A} → o ≡ None → o ≡ Some x → ⊥
@@ -137,9 +133,7 @@ module _ (before after : List BoxPicture) where
 
     -- and the rack has enough boxes
     not_short : IsWithinLimits c → (s : Shortage) → IsShort (boxes_for c q) before s → ⊥
-    not_short within s h =
-        let serves = stock_serves c q within is (a.paths q is) s.kind in
-        omega (arith, h.needed_is, h.there, h.fewer, serves, honest.stock s.kind)
+    not_short within s h = search (arith, stock_serves)
 
     -- So a plan fails for want of memory alone, where no reader fails.
     plan_memory : IsWithinLimits c → ((name : PartName)
@@ -188,32 +182,16 @@ module _ (words : List (List ℕ)) (before after : List BoxPicture) (out₀ out 
 
   plan_course : (f : PlanFailure) → status ≡ plan_status f
       → OfQuery words (λ c q. PlanFailsFor f c q before after) → HasCourse
-  plan_course (plan.Paths name count) s h =
-      let why = h.holds.holds in
-      meets_limit why.1 s (inl (of_query h (λ few. clash few why.0)))
-  plan_course (plan.Stock short) s h =
-      let why = h.holds.holds in
-      let needed = why.1.needed_is in
-      let there = why.1.there in
-      let fewer = why.1.fewer in
-      meets_limit why.2 s (inr (of_query h
-      (record { kind = short.kind; fewer = omega (arith, needed, there, fewer) })))
+  plan_course (plan.Paths name count) s h = search (arith, meets_limit, of_query)
+  plan_course (plan.Stock short) s h = search (arith, meets_limit, of_query)
   plan_course (plan.Part name f) s h = ran h h.holds.holds.runnable h.holds.holds.ran
   plan_course (plan.Unlawful k) s h = ran h h.holds.holds.runnable h.holds.holds.ran
-  plan_course plan.Memory s h = elim h.holds.holds [
-    | inl back ↦ takes_boxes (of_query h (back, inr s))
-    | inr same ↦ lacks_memory same s
-  ]
+  plan_course plan.Memory s h = search (arith, takes_boxes, of_query, lacks_memory)
 
   course : (e : Ending) → status ≡ status_of e → Why e → HasCourse
   course Answered s h = ran h.1 h.1.holds.holds.runnable h.1.holds.holds.ran
   course (Failed failure.Usage) s h = lacks_command h.0.1 s h.0.0
-  course (Failed (failure.Refused r)) s h =
-      elim (refusal_is h.0.0.command r h.0.0.holds) [
-        | inl memory ↦ lacks_memory h.0.1 (s ∙ memory)
-        | inr due ↦ is_refused h.0.1 (s ∙ due.0)
-            (record { command = h.0.0.command; means = h.0.0.means; holds = due.1 })
-      ]
+  course (Failed (failure.Refused r)) s h = search (arith, refusal_is, lacks_memory, is_refused)
   course (Failed (failure.Plan f)) s h = plan_course f s h.0
   course (Failed failure.Memory) s h = lacks_memory h.0 s
   course WriteFailed s h = ran h.1 h.1.holds.holds.runnable h.1.holds.holds.ran
@@ -223,11 +201,7 @@ module _ (words : List (List ℕ)) (before after : List BoxPicture) (out₀ out 
   -- an answered run wrote the text of an answer, and its boxes pulled the flow of that answer
   pulled_of : (e : Ending) → status ≡ status_of e → Why e → status ≡ 0
       → PulledRows words before after out₀ out
-  pulled_of Answered s h z = λ files told. (
-    h.0,
-    record { command = h.1.command; means = h.1.means; holds = h.1.holds.holds.answers files told },
-    h.2,
-  )
+  pulled_of Answered s h z = search (arith)
   pulled_of (Failed f) s h z = absurd (not_zero f (sym s ∙ z))
   pulled_of WriteFailed s h z = absurd (omega (arith, s, z))
 
@@ -254,11 +228,7 @@ module _ (words : List (List ℕ)) (before after : List BoxPicture) (out₀ out 
   limit_of : (P : Command → Checked → Type 0)
       → ((c : Command) (q : Checked) → IsCheckedCommand c q → IsRunnable c q before
       → OfChecked c (P c) → ⊥) → HasCourse → OfQuery words P → IsEither 6 7 status
-  limit_of P against (takes_boxes h) o = elim h.holds.holds.1 [
-    | inl within ↦
-        absurd (against h.command h.holds.checked h.holds.is within (moved o h))
-    | inr memory ↦ inr memory
-  ]
+  limit_of P against (takes_boxes h) o = search (arith)
   limit_of P against (lacks_memory same s) o = inr s
   limit_of P against (lacks_command same s none) o = absurd (means_something o none)
   limit_of P against (is_refused same s r) o = absurd (checked_not_refused o r)
@@ -274,11 +244,7 @@ module _ (words : List (List ℕ)) (before after : List BoxPicture) (out₀ out 
       → SucceedsUnless words before (ReaderFails words before after ⊎ write) status
   succeeds_of Answered s h = λ files honest o well. inl s
   succeeds_of (Failed failure.Usage) s h = λ files honest o well. absurd (means_something o h.0.0)
-  succeeds_of (Failed (failure.Refused r)) s h = λ files honest o well.
-      elim (refusal_is h.0.0.command r h.0.0.holds) [
-        | inl memory ↦ inr (s ∙ memory)
-        | inr due ↦ absurd (due.1 (moved o h.0.0).accepted)
-      ]
+  succeeds_of (Failed (failure.Refused r)) s h = search (arith, refusal_is)
   succeeds_of (Failed (failure.Plan f)) s h = λ files honest o well.
       inr (s ∙ plan_memory before after files h.0.command h.0.holds.checked honest (moved o h.0)
       h.0.holds.is (limits_kept words h.0.command (command_means words h.0.command h.0.means))

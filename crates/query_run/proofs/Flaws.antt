@@ -1,7 +1,5 @@
 -- A lawful box never lets a plan's graph grow by a growth that has a flaw.
-use Rattle.query_run.proofs.Imports.{All, All-append, All-cons, All-from_get_or, All-get_or, All-nil, AllByRecursion, Birth, Bool, BoxPicture, Checked, Command, DraftNode, Edge, FlawedWith, GraphBegins, GrowthForm, IsAdded, IsBirth, IsListGrowth, IsRunnable, KeepsBehind, Kind, List, MayGrow, Me, New, None, Option, PartSpec, Reserve, RunsPlan, Some, Spec, Who, Wire, [], and_parts, ap, arith, births_of, born_wires, both_ways, box_at, cases_lt, cond, end_node, eq-eqb, false, few-paths-in, flat_map, get_or, grown_ranks, grown_wires, growth_flaw, growth_list, growths_of, has_wrong_end, holds_node, inl, input_count, inr, is_named, is_reserved, is_some, kept_growths, kinds_for, kinds_reserved, le-leb, left_of, length, list-growth-has-no-flaw, list_any, list_growth, ltb-true, map, new_wire, new_wires, no_wire, not-false, or_parts, paths_in, rank_at, refl, reserve_of, reserved_nodes, reserves_from, set_ranks-other, sources-left, spec_at, specs_in, subst, sum_by, sum_by-cons, sym, take, true, wire_at, ℕ, ◌++◌, ◌+◌, ◌<◌, ◌==◌, ◌∙◌, ◌∷◌, ◌≡◌, ◌≢◌, ◌≤◌}
-use Rattle.query_model.specs.declared.processor_spec.Kind.TheVariants as kind
-use Rattle.query_model.specs.declared.processor_spec.Spec.TheVariants as spec
+use Rattle.query_run.proofs.Imports.{All, All-append, All-cons, All-from_get_or, All-get_or, All-nil, AllByRecursion, Birth, Bool, BoxPicture, Checked, Command, DraftNode, Edge, FlawedWith, GraphBegins, GrowthForm, IsAdded, IsBirth, IsListGrowth, IsRunnable, KeepsBehind, Kind, List, MayGrow, Me, New, None, Option, PartSpec, Reserve, RunsPlan, Some, Spec, Who, Wire, [], and_parts, ap, arith, births_of, born_wires, both_ways, box_at, cases_lt, cond, end_node, eq-eqb, false, few-paths-in, flat_map, get_or, grew-list, grown_kind, grown_ranks, grown_wires, growth_flaw, growth_list, growths_of, has_wrong_end, holds_node, inl, input_count, inr, is_named, is_reserved, is_some, kept_growths, kind_of, kinds_for, kinds_reserved, le-leb, left_of, length, list-growth-has-no-flaw, list_any, list_growth, list_source, ltb-true, map, new_wire, new_wires, no_wire, not-false, or_parts, paths_in, rank_at, refl, reserve_of, reserved_nodes, reserves_from, set_ranks-other, sources-left, spec_at, specs_in, subst, sum_by, sum_by-cons, sym, take, true, wire_at, ℕ, ◌++◌, ◌+◌, ◌<◌, ◌==◌, ◌∙◌, ◌∷◌, ◌≡◌, ◌≢◌, ◌≤◌}
 use Rattle.query_run.proofs.Grown.{blank-kept, ended-within, formed, kept-kind, list-reads, none-kept-at, ranked-list, ranked-within, unfed-first}
 use Rattle.query_run.proofs.Plans.{AreCopies, RanCopies, loaded-kind}
 use Rattle.query_run.proofs.Kept.{Away, away-held, none-placed, others-all}
@@ -136,20 +134,20 @@ module _ {c : Command} {q : Checked} {before after : List BoxPicture} {nodes : L
               sym (g.holds.bad.are.grew node lawful-before some
               ∙ ap (λ l. l ++ growths_of node births) start) ∙ now
 
-      module _ (list : PartSpec) (is : box.spec ≡ Some (spec.List list))
+      module _ (list : PartSpec) (is : box.spec ≡ Some (list_source list))
           (may : IsListGrowth list box.files g.holds.bad.bad.growth) where
         own : node < length nodes
         own = elim (cases_lt node (length nodes)) [
           | inl lt ↦ lt
           | inr le ↦
               let csv = kept-kind ran node le g.holds.bad.bad.in_range in
-              let wrong : kind.List ≡ kind.Csv =
-              loaded-kind ran node (spec.List list)
+              let wrong : kind_of (list_source list) ≡ grown_kind =
+              loaded-kind ran node (list_source list)
               g.holds.bad.bad.in_range is ∙ csv in
               absurd cc
         ]
 
-        reads : spec_at (specs_in nodes) node ≡ spec.List list
+        reads : spec_at (specs_in nodes) node ≡ list_source list
         reads = list-reads ran node list own is
 
         reserve : IsListReserve (reserve_of R node)
@@ -274,16 +272,15 @@ module _ {c : Command} {q : Checked} {before after : List BoxPicture} {nodes : L
         where
           go : (o : Option Spec) → box.spec ≡ o
               → MayGrow o box.files (Some g.holds.bad.bad.growth) → ⊥
-          go (Some (spec.List list)) e m =
-              let none = no-flaw list e m in
+          go o e m =
+              let grew = grew-list o box.files g.holds.bad.bad.growth m in
+              let none = no-flaw grew.list (e ∙ grew.is) grew.growth in
               let some =
               ap (λ (f : GrowthForm). growth_flaw (grown_ranks (formed nodes).ranks births)
-              (grown_wires wires births) (left_of R ended births node) node f) (sym m.is)
+              (grown_wires wires births) (left_of R ended births node) node f) (sym grew.growth.is)
               ∙ g.holds.bad.bad.flawed in
               let wrong : Some g.holds.flaw ≡ None = sym some ∙ none in
               absurd cc
-          go None e m = m
-          go (Some s) e m = m
 
     -- so a box whose growth has a flaw isn't lawful
     pub flawed-unlawful : box.lawful ≡ false

@@ -1,9 +1,7 @@
 -- A plan's graph that ran over an honest rack has grown by its lists, and each box served the part
 -- that is noted of it.
 pub use Rattle.query_run.specs.Steps.{formed}
-use Rattle.query_run.proofs.Imports.{AreBirths, AreLawfulOver, AreStarting, Birth, Bool, BoxPicture, Checked, Command, Contains, DraftNode, Files, GrowsLawfully, GrowthForm, IsAboveSources, IsListGrowth, IsListNamed, IsPartNamed, IsPlanGraph, IsSourceKind, KeepsBehind, Kind, List, None, Option, PartName, PartSpec, ReadsNamed, Reserve, ServesNamed, Some, SourceHas, Spec, StartsAs, TakeBlanks, UsedPart, [], ap, arith, at-recursion, births_of, blanks_of, both_ways, box_at, cases_Bool, cases_lt, collect_node, ended-later, eq-eqb, false, few-paths-in, file_bytes, filter-append, form-csv, form_at, form_kind, get_or, get_or-append-add, get_or-map, get_or-range_with_len, get_or_append_left, get_or_default, get_or_past, growths_of, holds_node, inl, input_count, inr, is_place, is_some, kept_growths, kind_of, kinds_for, kinds_in, kinds_of, kinds_reserved, le-leb, length, length-append, length-map, length-range_with_len, length-replicate, listed_part, map, name_at, nil_from_length, no_box, part-form, part_place, paths_in, places-listed, places_for, places_in, plan-graph, plan-ranked, plan_of, range_with_len, rank_at, refl, replicate, reserve_of, reserved_nodes, reserves_from, same_kind, slice_get, sources, sources-left, spec_at, specs_in, subst, sym, take, taken-kinds, taken-length, taken_for, true, unboxed, used_part, used_parts, ℕ, ⊤, ◌++◌, ◌+◌, ◌-◌, ◌<◌, ◌==◌, ◌∙◌, ◌∷◌, ◌≡◌, ◌≢◌, ◌≤◌}
-use Rattle.query_model.specs.declared.processor_spec.Kind.TheVariants as kind
-use Rattle.query_model.specs.declared.processor_spec.Spec.TheVariants as spec
+use Rattle.query_run.proofs.Imports.{AreBirths, AreLawfulOver, AreStarting, Birth, Bool, BoxPicture, Checked, Command, Contains, DraftNode, FileHas, FileRead, Files, GrowsLawfully, GrowthForm, IsAboveSources, IsListGrowth, IsListNamed, IsPartNamed, IsPlanGraph, IsSourceKind, KeepsBehind, Kind, List, NoFile, None, Option, PartFile, PartName, PartSpec, PartsFile, ReadsNamed, Reserve, ServesNamed, Some, SourceHas, Spec, StartsAs, TakeBlanks, UsedPart, [], ap, arith, at-recursion, births_of, blanks_of, both_ways, box_at, cases_Bool, cases_lt, collect_node, ended-later, eq-eqb, false, few-paths-in, file_bytes, file_place, file_read, filter-append, form-csv, form_at, form_kind, get_or, get_or-append-add, get_or-map, get_or-range_with_len, get_or_append_left, get_or_default, get_or_past, grown_kind, growths_of, holds_node, inl, input_count, inr, is_place, is_some, kept_growths, kind_of, kinds_for, kinds_in, kinds_of, kinds_reserved, le-leb, length, length-append, length-map, length-range_with_len, length-replicate, list_source, listed_part, map, name_at, nil_from_length, no_box, no_spec, part-form, part_place, part_source, paths_in, places-listed, places_for, places_in, plan-graph, plan-ranked, plan_of, range_with_len, rank_at, refl, replicate, reserve_of, reserved_nodes, reserves_from, row_of, slice_get, sources, sources-left, spec_at, specs_in, subst, sym, take, taken-kinds, taken-length, taken_for, true, unboxed, used_part, used_parts, ℕ, ⊤, ◌++◌, ◌+◌, ◌-◌, ◌<◌, ◌==◌, ◌∙◌, ◌∷◌, ◌≡◌, ◌≢◌, ◌≤◌, run-count}
 use Rattle.query_run.proofs.Kept.{Away, IsKeptFor, IsTaken, away-held, kept-for, kept-place, none-placed, numbered-contains, others-all, slice-left, slice-right, taken-by, takes-at}
 use Rattle.query_run.proofs.Plans.{RanCopies, IsUsedList, IsUsedPart, ended-files, ended-lawful, list-named, list-ports, loaded-kind, part-named, place-at, ran-at, reads-named, small_plan, source-at, stock}
 use Rattle.query_run.proofs.Reserves.{IsListReserve, held-of, holds-one, holds-within, kept-of, kept-sources, kinds-length, past-of}
@@ -13,12 +11,15 @@ abbrev pub names_of : Command → List DraftNode → ℕ → PartName
 names_of c nodes n =
     name_at c.tables (slice_get (places_in (specs_in nodes) (reserves_from 0 nodes)) n)
 
+abbrev pub HasItsName : Command → Checked → Files → PartName → FileRead → Type 0
+HasItsName c q files name NoFile = ⊤
+HasItsName c q files name (PartFile part) =
+    IsPartNamed c q files name (used_part part) × (part.header ≡ c.header)
+HasItsName c q files name (PartsFile list) = IsListNamed c q name 0 list.path
+
 -- what a box reads has this name
 abbrev pub ReadsItsName : Command → Checked → Files → PartName → Option Spec → Type 0
-ReadsItsName c q files name (Some (spec.Csv part)) =
-    IsPartNamed c q files name (used_part part) × (part.header ≡ c.header)
-ReadsItsName c q files name (Some (spec.List list)) = IsListNamed c q name 0 list.path
-ReadsItsName c q files name s = ⊤
+ReadsItsName c q files name o = HasItsName c q files name (file_read o)
 
 kinds-count : (nodes : List DraftNode)
     → length (kinds_for nodes) ≡ length nodes + reserved_nodes (reserves_from 0 nodes)
@@ -28,7 +29,7 @@ kinds-count nodes =
 -- boxes of these kinds are sources behind the nodes
 pub kind-kept : (nodes : List DraftNode) (boxes : List BoxPicture)
     → kinds_in boxes ≡ kinds_for nodes → (n : ℕ) → length nodes ≤ n → n < length boxes
-    → (box_at boxes n).kind ≡ kind.Csv
+    → (box_at boxes n).kind ≡ grown_kind
 unfolding box_at
 kind-kept nodes boxes e n le lt =
     let first : length (kinds_of (specs_in nodes)) ≡ length nodes =
@@ -39,11 +40,11 @@ kind-kept nodes boxes e n le lt =
     let len = length-map boxes (λ (p : BoxPicture). p.kind) in
     let all = ap (λ (l : List Kind). length l) e in
     let count = kinds-count nodes in
-    sym (get_or-map (λ (p : BoxPicture). p.kind) boxes n no_box kind.Csv lt)
-    ∙ ap (λ l. get_or l n kind.Csv) e
-    ∙ ap (λ m. get_or (kinds_for nodes) m kind.Csv) place
-    ∙ get_or-append-add (kinds_of (specs_in nodes)) rs (n - length nodes) kind.Csv
-    ∙ kept-sources (λ k. k ≡ kind.Csv) refl 0 nodes (n - length nodes) kind.Csv
+    sym (get_or-map (λ (p : BoxPicture). p.kind) boxes n no_box grown_kind lt)
+    ∙ ap (λ l. get_or l n grown_kind) e
+    ∙ ap (λ m. get_or (kinds_for nodes) m grown_kind) place
+    ∙ get_or-append-add (kinds_of (specs_in nodes)) rs (n - length nodes) grown_kind
+    ∙ kept-sources (λ k. k ≡ grown_kind) refl 0 nodes (n - length nodes) grown_kind
     (omega (arith, le, lt, len, all, count, kinds-length (reserves_from 0 nodes)))
 
 -- each node and each that is kept has a rank
@@ -69,7 +70,10 @@ module _ {c : Command} {q : Checked} {before after : List BoxPicture} {nodes : L
   kept = reserved_nodes (reserves_from 0 nodes)
 
   ended-count : length ended ≡ length nodes + kept
-  ended-count = grind (arith, length-map, kinds-length)
+  ended-count =
+      let count = run-count specs (kinds_reserved (reserves_from 0 nodes)) before after ended x.run
+      in
+      grind (arith, count, length-map, kinds-length)
 
   abbrev names : ℕ → PartName
   names = names_of c nodes
@@ -95,7 +99,7 @@ module _ {c : Command} {q : Checked} {before after : List BoxPicture} {nodes : L
       (ap (λ k. slice_get (places_in specs (reserves_from 0 nodes)) k) at
       ∙ slice-right (map part_place specs) _ _
       ∙ kept-place specs nodes f.lister f.place f.in_range
-      (ap (λ s. same_kind (kind_of s) kind.List) f.reads) f.place_in_range
+      (ap (λ s. (row_of (kind_of s)).reads_list) f.reads) f.place_in_range
       ∙ ap (λ s. Some (record { table = (part_place s).table; part = f.place + 1 })) f.reads)
 
   kept-list : (n : ℕ) → length nodes ≤ n → n < length ended → for-list n
@@ -132,7 +136,7 @@ module _ {c : Command} {q : Checked} {before after : List BoxPicture} {nodes : L
 
   -- what is kept for lists are sources
   pub kept-kind : (n : ℕ) → length nodes ≤ n → n < length ended
-      → (box_at ended n).kind ≡ kind.Csv
+      → (box_at ended n).kind ≡ grown_kind
   kept-kind n le lt =
       let len = taken-length (kinds_for nodes) before in
       (ended-later specs (kinds_reserved (reserves_from 0 nodes)) before after ended x.run n
@@ -158,14 +162,14 @@ module _ {c : Command} {q : Checked} {before after : List BoxPicture} {nodes : L
 
   -- no wire of the plan goes to a list
   pub unfed-first : (n : ℕ) (list : PartSpec) → n < length nodes
-      → spec_at specs n ≡ spec.List list → input_count (formed nodes).wires n ≡ 0
+      → spec_at specs n ≡ list_source list → input_count (formed nodes).wires n ≡ 0
   unfed-first n list lt is = graph.graph.inputs n ∙ (list-ports x.copies n list lt is).0
 
   -- the spec of a list's node
   pub list-reads : (n : ℕ) (list : PartSpec) → n < length nodes
-      → (box_at ended n).spec ≡ Some (spec.List list) → spec_at specs n ≡ spec.List list
+      → (box_at ended n).spec ≡ Some (list_source list) → spec_at specs n ≡ list_source list
   list-reads n list lt is =
-      let e : Some (spec_at specs n) ≡ Some (spec.List list) =
+      let e : Some (spec_at specs n) ≡ Some (list_source list) =
       sym (ran-at x n lt).spec ∙ is in
       cc
 
@@ -203,7 +207,7 @@ module _ {c : Command} {q : Checked} {before after : List BoxPicture} {nodes : L
             (subst IsSourceKind (loaded-kind x n s lt is)
             source);
         specs = λ n z lt is. (ran-at x n lt).spec
-            ∙ ap (λ s. Some s) (get_or-map (λ (n : DraftNode). n.spec) nodes n z spec.Collect lt
+            ∙ ap (λ s. Some s) (get_or-map (λ (n : DraftNode). n.spec) nodes n z no_spec lt
             ∙ ap (λ (n : DraftNode). n.spec) is);
         behind = λ n k held.
             let w = holds-within k n (length nodes) (length (formed nodes).wires)
@@ -236,7 +240,7 @@ module _ {c : Command} {q : Checked} {before after : List BoxPicture} {nodes : L
         pub path : List ℕ
         pub in_range : f.place < length (paths_in (Some text))
         pub is : get_or (paths_in (Some text)) f.place path ≡ path
-        pub loaded : (box_at ended node).spec ≡ Some (spec.Csv (listed_part f.list f.place path))
+        pub loaded : (box_at ended node).spec ≡ Some (part_source (listed_part f.list f.place path))
 
       module _ (node : ℕ) (f : IsKeptFor 0 (length nodes) nodes node)
           (born : is_some (box_at ended node).spec ≡ true) where
@@ -258,7 +262,7 @@ module _ {c : Command} {q : Checked} {before after : List BoxPicture} {nodes : L
         held = held-of nodes edges m f.list f.in_range f.reads
 
         left : (k : ℕ) → k < 32 → ((box_at started (first + k)).spec ≡ None)
-            × ((box_at started (first + k)).kind ≡ kind.Csv)
+            × ((box_at started (first + k)).kind ≡ grown_kind)
         left k lt =
             let w = past-of nodes edges m f.list f.in_range f.reads k lt in
             let high = w.1 in (
@@ -288,7 +292,7 @@ module _ {c : Command} {q : Checked} {before after : List BoxPicture} {nodes : L
         in-ended : m < length ended
         in-ended = let lt = f.in_range in omega (arith, lt, ended-count)
 
-        lister-loaded : (box_at ended m).spec ≡ Some (spec.List f.list)
+        lister-loaded : (box_at ended m).spec ≡ Some (list_source f.list)
         lister-loaded = (ran-at x m f.in_range).spec ∙ ap (λ s. Some s) f.reads
 
         lister-lawful : (box_at ended m).lawful ≡ true
@@ -297,7 +301,7 @@ module _ {c : Command} {q : Checked} {before after : List BoxPicture} {nodes : L
         may : IsListGrowth f.list (Some files) birth.growth
         may =
             let told = ended-files x files honest m in-ended
-            (subst IsSourceKind (loaded-kind x m (spec.List f.list) in-ended lister-loaded) tt) in
+            (subst IsSourceKind (loaded-kind x m (list_source f.list) in-ended lister-loaded) tt) in
             rw (expander, lister-loaded, told) at
             (taken.is_birth.may_grow (rw expander lister-lawful))
 
@@ -359,11 +363,11 @@ module _ {c : Command} {q : Checked} {before after : List BoxPicture} {nodes : L
             let is : get_or paths taken.place path ≡ path =
             get_or_default paths taken.place path [] in-paths in
             let form : form_at birth.growth.specs taken.place
-            ≡ unboxed (spec.Csv (listed_part f.list taken.place path)) =
+            ≡ unboxed (part_source (listed_part f.list taken.place path)) =
             ap (λ (h : GrowthForm). form_at h.specs taken.place) may.is
             ∙ part-form f.list 0 paths taken.place path in-paths is
             ∙ (let none : 0 + taken.place ≡ taken.place = omega arith in
-            ap (λ j. unboxed (spec.Csv (listed_part f.list j path))) none) in
+            ap (λ j. unboxed (part_source (listed_part f.list j path))) none) in
             let loaded =
             rw taken.is at (form-csv (box_at ended (get_or birth.places taken.place 0)).spec
             (form_at birth.growth.specs taken.place) (listed_part f.list taken.place path) form
@@ -380,15 +384,19 @@ module _ {c : Command} {q : Checked} {before after : List BoxPicture} {nodes : L
 
       first-reads-its-name : (s : Spec) → SourceHas (IsUsedPart c q) (IsUsedList c q) s
           → ReadsItsName c q files (name_at c.tables (Some (part_place s))) (Some s)
-      first-reads-its-name (spec.Csv part) u = (
-        part-named x.copies files (used_part part) u.table u.declared (u.among files),
-        u.header_is,
-      )
-      first-reads-its-name (spec.List list) u =
-          subst (λ k. IsListNamed c q
-          (name_at c.tables (Some (record { table = list.table; part = k })))
-          0 list.path) (sym u.part_is) (list-named x.copies list u 0)
-      first-reads-its-name s u = tt
+      first-reads-its-name s u = each (file_read (Some s)) u
+        where
+          each : (r : FileRead) → FileHas (IsUsedPart c q) (IsUsedList c q) r
+              → HasItsName c q files (name_at c.tables (Some (file_place r))) r
+          each NoFile u = tt
+          each (PartFile part) u = (
+            part-named x.copies files (used_part part) u.table u.declared (u.among files),
+            u.header_is,
+          )
+          each (PartsFile list) u =
+              subst (λ k. IsListNamed c q
+              (name_at c.tables (Some (record { table = list.table; part = k })))
+              0 list.path) (sym u.part_is) (list-named x.copies list u 0)
 
       pub reads-its-name : (n : ℕ) → n < length ended
           → ReadsItsName c q files (names n) (box_at ended n).spec

@@ -8,6 +8,7 @@ pub use Rattle.command_line.specs.declared.words.Command.{Command}
 pub use Rattle.csv_rows.specs.Lines.{heading}
 pub use Rattle.exec_laws.proofs.BirthLaws.{place-of}
 pub use Rattle.exec_laws.proofs.GrownGraphs.{not-false, set_ranks-other}
+pub use Rattle.exec_laws.proofs.Growing.{grew-list}
 pub use Rattle.exec_laws.proofs.ListGrowths.{list-growth-has-no-flaw, places-listed, sources, sources-left}
 pub use Rattle.exec_laws.specs.Births.{AreBirths, Birth, IsBirth, TakeBlanks, all_places, births_of, blanks_of, born_wires, form_at, grown_ranks, grown_wires, growth_list, growths_of, is_place, kept_growths, left_of, reserve_of}
 pub use Rattle.exec_laws.specs.Growths.{end_node, form_kind, growth_flaw, has_wrong_end, is_named, new_wire, new_wires, places_for}
@@ -26,8 +27,8 @@ pub use Rattle.plan_laws.proofs.ends.Parts.{IsListOf, IsPartOf, both-valid, in-f
 pub use Rattle.plan_laws.proofs.ends.Pulled.{since-pulled}
 pub use Rattle.plan_laws.proofs.ends.LaidPlans.{IsQueryPlan}
 pub use Rattle.plan_laws.proofs.ends.Queries.{QueryAnswered, planned-ended, query-plan}
-pub use Rattle.plan_laws.specs.Ended.{HasEnded, HasFullCount, HasPulled, IsStep, KnownPorts, SourceHas, pulled_since, sources_of_files, stream_pulled_at, used_part}
-pub use Rattle.proc_api.specs.SpecContracts.{IsUngrown}
+pub use Rattle.plan_laws.specs.Ended.{FileHas, HasEnded, HasFullCount, HasPulled, IsStep, KnownPorts, SourceHas, pulled_since, sources_of_files, stream_pulled_at, used_part}
+pub use Rattle.proc_api.specs.SpecContracts.{IsUngrown, OfFile}
 pub use Rattle.plan_laws.specs.Grown.{GrowsLawfully}
 pub use Rattle.plan_laws.specs.Drafts.{no_draft, ports_of, with_nodes}
 pub use Rattle.plan_laws.specs.declared.nodes.DraftNode.{DraftNode}
@@ -37,11 +38,12 @@ pub use Rattle.plan_laws.specs.Plans.{HasEnoughRows, IsSmall, SelectPlan, body_n
 pub use Rattle.plan_laws.specs.Same.{forms}
 pub use Rattle.plan_laws.specs.Streams.{Stream, rows_together, stream_rows}
 pub use Rattle.plan_laws.specs.Runs.{pulled_rows}
-pub use Rattle.plan_laws.specs.Queries.{shape_of, shape_types}
+pub use Rattle.plan_laws.specs.Queries.{shape_of}
 pub use Rattle.proc_api.proofs.RackLaws.{kind-at}
 pub use Rattle.plan_run.proofs.Taking.{some-rest, stock-here, stock-step, taken-kinds, taken-length}
-pub use Rattle.plan_run.proofs.Telling.{ended-later, runs-give-back, taken-has}
-pub use Rattle.plan_run.specs.Plans.{FailsWith, FlawedWith, GivesBack, GraphBegins, KeepsBehind, LeavesRack, MayRunPlan, PlanFails, PlanFaultHolds, RanWith, RunsPlan, kinds_in, kinds_of, kinds_taken, taken_at}
+pub use Rattle.plan_run.proofs.Telling.{ended-later, run-count, runs-give-back, taken-has}
+pub use Rattle.plan_run.specs.Boxes.{RanWith}
+pub use Rattle.plan_run.specs.Plans.{FailsWith, FlawedWith, GivesBack, GraphBegins, KeepsBehind, LeavesRack, MayRunPlan, PlanFails, PlanFaultHolds, RunsPlan, kinds_in, kinds_of, kinds_taken, taken_at}
 pub use Rattle.plan_run.specs.Stock.{HasStock, first_box_of, left_after, taken_for, without_first_box}
 pub use Rattle.plan_run.specs.declared.run.GraphForm.{GraphForm}
 pub use Rattle.plan_run.specs.declared.run.PlanFault.{PlanFault}
@@ -51,7 +53,7 @@ pub use Rattle.port_word.specs.declared.flags.Wire.{Wire}
 pub use Rattle.proc_api.proofs.Graphs.{is-gapless}
 pub use Rattle.proc_api.proofs.Reserving.{graph-reserved, none-reserved, reserve-added}
 pub use Rattle.proc_api.specs.Graphs.{IsGraphSoFar, reserved_edges}
-pub use Rattle.proc_api.specs.Names.{BoxPicture, GrowthForm, HasNoReader, IsBlank, IsGraph, IsListGrowth, IsLongFile, IsSourceKind, MayGrow, OfPart, chunk_rows, handed_out_by, input_count, is_of, kind_place, list_growth, listed_part, no_box, no_wire, same_kind, unboxed}
+pub use Rattle.proc_api.specs.Names.{BoxPicture, FileRead, GrowthForm, HasNoReader, IsBlank, IsGraph, IsListGrowth, IsLongFile, IsSourceKind, MayGrow, NoFile, OfPart, PartFile, PartsFile, ReadsList, ReadsPart, chunk_rows, file_read, grown_kind, handed_out_by, input_count, is_of, kind_place, list_growth, listed_part, no_box, no_spec, no_wire, row_of, same_kind, unboxed}
 pub use Rattle.proc_api.specs.Reserves.{AreReserves, AreStarting, IsAdded, StartsAs, holds_node, is_reserved, no_reserve}
 pub use Rattle.proc_api.specs.declared.growth.Edge.{Edge}
 pub use Rattle.proc_api.specs.declared.growth.Who.{Who}
@@ -59,7 +61,7 @@ pub use Rattle.proc_api.specs.declared.growth.Who.TheVariants.{Me, New}
 pub use Rattle.proc_api.specs.declared.status.WorkFault.{WorkFault}
 pub use Rattle.query_model.proofs.Lists.{map-map}
 pub use Rattle.query_model.specs.Database.{IsListDeclared, IsListUsed, IsValidList, paths_in}
-pub use Rattle.query_model.specs.Names.{AllPartsValid, BothOrNone, Files, FromColumn, IsChecked, IsDueRefusal, IsShape, IsTypedQuery, IsValidUsed, UsedPart, answer_text, bad_line_in, database, file_bytes, flow, from_types, is_grouped, join_use, kind_of, query_boxes, query_tables, numbered_parts, part_bad_place, parts_used, refusal_of, rows_text, use_of, used_parts, used_tables}
+pub use Rattle.query_model.specs.Names.{AllPartsValid, BothOrNone, Files, FromColumn, IsChecked, IsDueRefusal, IsShape, IsTypedQuery, IsValidUsed, UsedPart, answer_text, bad_line_in, database, file_bytes, flow, from_types, is_grouped, join_use, kind_of, query_boxes, query_tables, numbered_parts, part_bad_place, parts_used, refusal_of, rows_text, shape_types, use_of, used_parts, used_tables}
 pub use Rattle.query_model.specs.declared.checked.Checked.{Checked}
 pub use Rattle.query_model.specs.declared.checked.Shape.{Shape}
 pub use Rattle.query_model.specs.declared.checked.TableUse.TheVariants.{Declared}
@@ -72,7 +74,7 @@ pub use Rattle.query_model.specs.declared.query.Refusal.{Refusal}
 pub use Rattle.query_model.specs.declared.query.Schema.{Schema}
 pub use Rattle.query_model.specs.declared.query.TableDecl.{TableDecl}
 pub use Rattle.query_run.specs.Endings.{Writes, piece_bytes}
-pub use Rattle.query_run.specs.Names.{AreLawfulOver, AreRefused, Ending, Ends, EndsFor, EndsUnlawful, FailsAtPart, Failure, GivesText, HasBoxes, IsAccepted, IsAnswerable, IsCertain, IsCheckedCommand, IsEither, IsGraphOf, IsHonest, IsListNamed, IsPartNamed, IsPlain, IsPlanFault, IsPlanned, IsRefusedFor, IsRun, IsRunnable, IsShort, KINDS, LackBoxes, LacksBoxes, LeavesBoxes, LeavesPlan, MakesText, MeanNothing, NameManyPaths, NamesFewPaths, OfChecked, OfCommand, OfQuery, PartFailsFor, PartFailure, PartName, PartPlace, PlanFailsFor, PlanFailure, PulledMore, PulledRows, PullsItsFlow, RanPlan, ReaderFails, ReadsNamed, Refused, ServesNamed, Shortage, SucceedsUnless, Tells, WritesAnswer, boxes_for, edges_kept, failure_of, failure_status, kept_places, kinds_for, kinds_reserved, name_at, name_of, node_specs, part_place, places_in, plan_kinds, plan_of, plan_status, query_status, refused_status, reserves_behind, schemas_of, spec_read, specs_in, status_of, stock_of, tables_used}
+pub use Rattle.query_run.specs.Names.{AreLawfulOver, AreRefused, Ending, Ends, EndsFor, EndsUnlawful, FailsAtPart, Failure, GivesText, HasBoxes, IsAccepted, IsAnswerable, IsCertain, IsCheckedCommand, IsEither, IsGraphOf, IsHonest, IsListNamed, IsPartNamed, IsPlain, IsPlanFault, IsPlanned, IsReadNamed, IsRefusedFor, IsRun, IsRunnable, IsShort, KINDS, LackBoxes, LacksBoxes, LeavesBoxes, LeavesPlan, MakesText, MeanNothing, NameManyPaths, NamesFewPaths, OfChecked, OfCommand, OfQuery, PartFailsFor, PartFailure, PartName, PartPlace, PlanFailsFor, PlanFailure, PulledMore, PulledRows, PullsItsFlow, RanPlan, ReaderFails, ReadsNamed, Refused, ServesNamed, Shortage, SucceedsUnless, Tells, WritesAnswer, boxes_for, edges_kept, failure_of, failure_status, file_place, kept_places, kinds_for, kinds_reserved, name_at, name_of, node_specs, part_place, places_in, plan_kinds, plan_of, plan_status, query_status, refused_status, reserves_behind, schemas_of, spec_read, specs_in, status_of, stock_of, tables_used}
 pub use Rattle.query_run.specs.Racks.{pulled_by_boxes}
 pub use Rattle.query_run.specs.declared.ending.Ending.TheVariants.{Answered, Failed, WriteFailed}
 pub use Rattle.query_run.specs.declared.telling.LinePiece.{LinePiece}
@@ -81,7 +83,7 @@ pub use Rattle.plan_laws.proofs.meaning.SmallPlans.{is-small}
 pub use Rattle.plan_laws.specs.Boxes.{reserved_nodes}
 pub use Rattle.plan_laws.specs.Shapes.{boxes_needed, boxes_reserved, plan_ranks, reserves_from}
 pub use Rattle.plan_laws.specs.Refusals.{first_crowded}
-pub use Rattle.plan_laws.specs.Steps.{order_of, source_types}
+pub use Rattle.plan_laws.specs.Steps.{list_source, order_of, part_source, source_types}
 pub use Rattle.plan_laws.specs.declared.plan.Plan.{Plan}
 pub use Rattle.plan_laws.specs.declared.plan.PlanNode.{PlanNode}
 pub use Rattle.plan_laws.specs.declared.plan.PlanReserve.{PlanReserve}
@@ -104,6 +106,6 @@ pub use Rattle.std.proofs.lemmas.Option.{slice_get-get_or}
 pub use Rattle.std.specs.List.{All, AllByRecursion, Contains, list_any, range_with_len}
 pub use Rattle.std.specs.Prelude.{IfSome, nat_le, ⊤, ◌==◌}
 unfoldable pub use Rattle.exec_laws.specs.Runs.{box_at}
-unfoldable pub use Rattle.plan_run.specs.Plans.{spec_at}
+unfoldable pub use Rattle.plan_run.specs.Boxes.{spec_at}
 unfoldable pub use Rattle.proc_api.specs.Names.{rank_at, wire_at}
 unfoldable pub use Rattle.proc_api.specs.Reserves.{reserve_at}

@@ -1,13 +1,11 @@
 -- The boxes that are kept for lists: which part each of them serves, and which birth took it.
-use Rattle.query_run.proofs.Imports.{AllByRecursion, Birth, BoxPicture, ColumnType, Contains, DraftNode, IsBirth, List, PartPlace, PartSpec, PlanReserve, Reserve, Some, Spec, TakeBlanks, [], all_places, ap, append-nil, append_assoc, ap₂, arith, births_of, blanks_of, cases_Bool, cases_lt, eq-eqb, false, flat_map, flat_map-append, form_kind, get_or, get_or-map-range_with_len, holds_node, inl, inr, is_place, kept_places, kind_of, length, length-append, length-map-range_with_len, list_any, list_any-append, map, numbered_parts, part_place, place-of, places_for, refl, reserve_of, reserved_nodes, reserves_from, same_kind, slice_get, slice_get-get_or, spec_at, spec_read, specs_in, suc, sym, take, true, zero, ℕ, ◌++◌, ◌+◌, ◌-◌, ◌<◌, ◌==◌, ◌∙◌, ◌∷◌, ◌≡◌, ◌≢◌, ◌≤◌}
-use Rattle.query_model.specs.declared.processor_spec.Kind.TheVariants as kind
-use Rattle.query_model.specs.declared.processor_spec.Spec.TheVariants as spec
+use Rattle.query_run.proofs.Imports.{AllByRecursion, Birth, BoxPicture, ColumnType, Contains, DraftNode, IsBirth, List, PartPlace, PartSpec, PlanReserve, Reserve, Some, Spec, TakeBlanks, [], all_places, ap, append-nil, append_assoc, ap₂, arith, births_of, blanks_of, cases_Bool, cases_lt, eq-eqb, false, flat_map, flat_map-append, form_kind, get_or, get_or-map-range_with_len, holds_node, inl, inr, is_place, kept_places, kind_of, length, length-append, length-map-range_with_len, list_any, list_any-append, list_source, map, numbered_parts, part_place, place-of, places_for, refl, reserve_of, reserved_nodes, reserves_from, row_of, slice_get, slice_get-get_or, spec_at, spec_read, specs_in, suc, sym, take, true, zero, ℕ, ◌++◌, ◌+◌, ◌-◌, ◌<◌, ◌==◌, ◌∙◌, ◌∷◌, ◌≡◌, ◌≢◌, ◌≤◌}
 use Rattle.query_run.proofs.Reserves.{kept-nodes, list_kept}
 
 -- ---- which list a box is kept for
 
-list-of : (s : Spec) → same_kind (kind_of s) kind.List ≡ true
-    → (list : PartSpec) × (s ≡ spec.List list)
+list-of : (s : Spec) → (row_of (kind_of s)).reads_list ≡ true
+    → (list : PartSpec) × (s ≡ list_source list)
 list-of s e = grind arith
 
 -- behind so many nodes, node q is one of those that are kept for a list among these
@@ -15,7 +13,7 @@ pub record IsKeptFor (n nodes : ℕ) (zs : List DraftNode) (q : ℕ) : Type 0 wh
   pub lister : ℕ
   pub in_range : lister < length zs
   pub list : PartSpec
-  pub reads : spec_at (specs_in zs) lister ≡ spec.List list
+  pub reads : spec_at (specs_in zs) lister ≡ list_source list
   pub place : ℕ
   pub place_in_range : place < 32
   pub is : q ≡ nodes + reserved_nodes (reserves_from n (take lister zs)) + place
@@ -42,7 +40,7 @@ pub kept-for : (n nodes : ℕ) (zs : List DraftNode) (q : ℕ) → nodes ≤ q
     → q < nodes + reserved_nodes (reserves_from n zs) → IsKeptFor n nodes zs q
 unfolding spec_at
 kept-for n nodes [] q le lt = absurd (omega (arith, le, lt))
-kept-for n nodes (z ∷ zs) q le lt = elim (cases_Bool (same_kind (kind_of z.spec) kind.List)) [
+kept-for n nodes (z ∷ zs) q le lt = elim (cases_Bool (row_of (kind_of z.spec)).reads_list) [
   | inl e ↦ elim (cases_lt q (nodes + 32)) [
     | inl less ↦
         let l = list-of z.spec e in
@@ -89,18 +87,17 @@ kept-length specs (r ∷ rs) =
 
 -- what is kept for the list at place m of the nodes, among what is kept for the others
 reserves-split : (n : ℕ) (zs : List DraftNode) (m k : ℕ) → m < length zs
-    → same_kind (kind_of (spec_at (specs_in zs) m)) kind.List ≡ true → k ≡ n + m
+    → (row_of (kind_of (spec_at (specs_in zs) m))).reads_list ≡ true → k ≡ n + m
     → (later : List PlanReserve)
     × (reserves_from n zs ≡ reserves_from n (take m zs) ++ list_kept k ∷ later)
 unfolding spec_at
 reserves-split n [] m k lt list at = absurd (omega (arith, lt))
 reserves-split n (z ∷ zs) zero k lt list at = (reserves_from (suc n) zs, grind arith)
 reserves-split n (z ∷ zs) (suc m) k lt list at =
-    let h = reserves-split (suc n) zs m k (omega (arith, lt)) list (omega (arith, at)) in
-    (h.0, grind (arith, h.1, append_assoc))
+    search (arith, append_assoc, reserves-split (suc n) zs m k)
 
 pub kept-place : (specs : List Spec) (zs : List DraftNode) (m place : ℕ) → m < length zs
-    → same_kind (kind_of (spec_at (specs_in zs) m)) kind.List ≡ true → place < 32
+    → (row_of (kind_of (spec_at (specs_in zs) m))).reads_list ≡ true → place < 32
     → slice_get (flat_map (kept_of specs) (reserves_from 0 zs))
     (reserved_nodes (reserves_from 0 (take m zs)) + place)
     ≡ Some (record { table = (part_place (spec_read specs m)).table; part = place + 1 })

@@ -1,7 +1,10 @@
 -- The nodes of a checked query's plan, and the boxes that they take from a rack.
-use Rattle.query_run.proofs.Imports.{AllByRecursion, AreLawfulOver, BoxPicture, Checked, Command, Contains, Contains-append_right, DraftNode, Files, HasBoxes, HasStock, IsCheckedCommand, IsListNamed, IsListOf, IsPartNamed, IsPartOf, IsQueryPlan, IsRunnable, IsSmall, IsSourceKind, IsStep, IsWithinLimits, Kind, KnownPorts, List, NamesFewPaths, PartSpec, PlanReserve, RanWith, ReadsNamed, RunsPlan, Some, SourceHas, Spec, TableDecl, UsedPart, [], ap, arith, at-recursion, both_ways, box_at, boxes-counted, boxes_for, boxes_reserved, cases_lt, collect_node, cond, count_by, ended-later, flat_map, forms, get_or, get_or-map, get_or_default, in-front, inl, inr, is-small, is_some, join_use, joined-parts, kind_of, kinds-counted, kinds-same, kinds_for, kinds_of, kinds_reserved, length, length-map, map, name_at, name_of, part_place, parts_used, plan-needs, plan-steps, plan_nodes, plan_of, query-plan, refl, reserves-same, reserves_from, same_kind, slice_get, spec_at, specs_in, subst, sum_by, sum_by-append, sum_by-cons, sym, table-parts, taken-has, taken_at, true, used_part, used_parts, used_tables, ℕ, ◌<◌, ◌∙◌, ◌∷◌, ◌≡◌}
-use Rattle.query_model.specs.declared.processor_spec.Spec.TheVariants as spec
+use Rattle.query_run.proofs.Imports.{AllByRecursion, AreLawfulOver, BoxPicture, Checked, Command, Contains, Contains-append_right, DraftNode, FileHas, FileRead, Files, HasBoxes, HasStock, IsCheckedCommand, IsListNamed, IsListOf, IsPartNamed, IsPartOf, IsQueryPlan, IsReadNamed, IsRunnable, IsSmall, IsSourceKind, IsStep, IsWithinLimits, Kind, KnownPorts, List, NamesFewPaths, NoFile, OfFile, OfPart, PartFile, PartSpec, PartsFile, PlanReserve, RanWith, ReadsNamed, RunsPlan, Some, SourceHas, Spec, TableDecl, UsedPart, [], ap, arith, at-recursion, both_ways, box_at, boxes-counted, boxes_for, boxes_reserved, cases_lt, collect_node, cond, count_by, ended-later, file_place, file_read, flat_map, forms, get_or, get_or-map, get_or_default, in-front, inl, inr, is-small, is_some, join_use, joined-parts, kind_of, kinds-counted, kinds-same, kinds_for, kinds_of, kinds_reserved, length, length-map, list_source, map, name_at, name_of, part_place, parts_used, plan-needs, plan-steps, plan_nodes, plan_of, query-plan, refl, reserves-same, reserves_from, same_kind, slice_get, spec_at, specs_in, subst, sum_by, sum_by-append, sum_by-cons, sym, table-parts, taken-has, taken_at, true, used_part, used_parts, used_tables, ℕ, ◌<◌, ◌∙◌, ◌∷◌, ◌≡◌, ⊤}
 use Rattle.query_run.proofs.Commands.{typed_by_tables}
+
+-- a source's spec reads a file
+source-reads : (s : Spec) → IsSourceKind (kind_of s) → OfPart (Some s) (λ part. ⊤)
+source-reads s source = grind arith
 
 -- ---- the plan of a query
 
@@ -55,10 +58,7 @@ pub record AreCopies (c : Command) (q : Checked) (nodes : List DraftNode) : Type
 
 module _ {c : Command} {q : Checked} {nodes : List DraftNode} (copies : AreCopies c q nodes) where
   query_plan : IsQueryPlan (plan_of c q)
-  query_plan =
-      query-plan q c.tables c.threads c.chunk_rows c.header
-      (typed_by_tables c q copies.checked)
-      (let some = copies.within.some_threads in omega (arith, some))
+  query_plan = search (arith, query-plan, typed_by_tables)
 
   pub small_plan : NamesFewPaths c q → IsSmall (plan_of c q)
   small_plan few = grind (arith, is-small)
@@ -97,7 +97,7 @@ module _ {c : Command} {q : Checked} {nodes : List DraftNode} (copies : AreCopie
 
   -- the ports of a list's node
   pub list-ports : (n : ℕ) (list : PartSpec) → n < length nodes
-      → spec_at (specs_in nodes) n ≡ spec.List list
+      → spec_at (specs_in nodes) n ≡ list_source list
       → (get_or (map (λ (z : DraftNode). z.takes) nodes) n 0 ≡ 0)
       × (get_or (map (λ (z : DraftNode). z.gives) nodes) n 0 ≡ 1)
   list-ports n list lt is =
@@ -138,13 +138,18 @@ module _ {c : Command} {q : Checked} {nodes : List DraftNode} (copies : AreCopie
     where
       one : (s : Spec) → SourceHas (IsUsedPart c q) (IsUsedList c q) s → IsSourceKind (kind_of s)
           → ReadsNamed c q (name_at c.tables (Some (part_place s))) s
-      one (spec.Csv part) h source =
-          λ files. part-named files (used_part part) h.table h.declared (h.among files)
-      one (spec.List list) h source =
-          subst (λ k. IsListNamed c q
-          (name_at c.tables (Some (record { table = list.table; part = k })))
-          0 list.path) (sym h.part_is) (list-named list h 0)
-      one s h source = absurd source
+      one s h source = each (file_read (Some s)) h (source-reads s source)
+        where
+          each : (r : FileRead) → FileHas (IsUsedPart c q) (IsUsedList c q) r
+              → OfFile r (λ part. ⊤)
+              → IsReadNamed c q (name_at c.tables (Some (file_place r))) r
+          each NoFile h some = absurd some
+          each (PartFile part) h some =
+              λ files. part-named files (used_part part) h.table h.declared (h.among files)
+          each (PartsFile list) h some =
+              subst (λ k. IsListNamed c q
+              (name_at c.tables (Some (record { table = list.table; part = k })))
+              0 list.path) (sym h.part_is) (list-named list h 0)
 
 -- the place that was noted of a node is that of its spec
 pub place-at : (specs : List Spec) (n : ℕ) → n < length specs
@@ -179,7 +184,7 @@ module _ {c : Command} {q : Checked} {before after : List BoxPicture} {nodes : L
   -- the box that a node ran
   pub ran-at : (n : ℕ) → n < length nodes
       → RanWith (spec_at specs n) (taken_at (kinds_for nodes) before n) (box_at ended n)
-  ran-at n lt = x.run.ran n (rw length-map lt)
+  ran-at n lt = x.run.boxes.ran n (rw length-map lt)
 
   pub ended-kind : (n : ℕ) → n < length nodes → (box_at ended n).kind ≡ kind_of (spec_at specs n)
   ended-kind n lt = grind (arith, ran-at)
@@ -189,10 +194,11 @@ module _ {c : Command} {q : Checked} {before after : List BoxPicture} {nodes : L
       → kind_of s ≡ (box_at ended n).kind
   loaded-kind n s lt is = elim (cases_lt n (length nodes)) [
     | inl less ↦ ran-kind s _ _ _ (ran-at n less) is
-    | inr past ↦ elim (x.run.ran_kept n (rw length-map past) lt) [
-      | inl still ↦ absurd (both_ways _ (ap is_some still.1) (ap is_some is))
-      | inr r ↦ ran-kind s r.0 _ _ r.1 is
-    ]
+    | inr past ↦ elim (x.run.boxes.ran_kept n (rw length-map past)
+        (subst (λ k. n < k) x.run.boxes.count lt)) [
+          | inl still ↦ absurd (both_ways _ (ap is_some still.1) (ap is_some is))
+          | inr r ↦ ran-kind s r.0 _ _ r.1 is
+        ]
   ]
 
   module _ (files : Files) (honest : AreLawfulOver files before) (n : ℕ)

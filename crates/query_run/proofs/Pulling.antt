@@ -1,6 +1,5 @@
 -- The rows that the boxes of a rack pulled in a run, kind by kind.
 use Rattle.query_run.proofs.Imports.{All, Bool, BoxPicture, HasFullCount, HasStock, Kind, List, PulledMore, RunsPlan, Some, Spec, [], ap, arith, both_ways, box_at, cases_Bool, cases_lt, cond, count_by, ended-later, false, first_box_of, get_or, get_or-append-add, get_or-map, inl, inr, is_of, kind_of, kinds_of, kinds_taken, left_after, length, length-append, length-map, no_box, pulled_by_boxes, pulled_since, refl, same_kind, some-rest, stock-here, stock-step, subst, suc, sym, taken-kinds, taken-length, taken_for, true, without_first_box, ℕ, ◌++◌, ◌+◌, ◌-◌, ◌<◌, ◌∙◌, ◌∷◌, ◌≡◌, ◌≤◌, ◌⊎◌}
-use Rattle.query_model.specs.declared.processor_spec.Kind.TheVariants as kind
 
 pulled-append : (k : Kind) (xs ys : List BoxPicture)
     → pulled_by_boxes k (xs ++ ys) ≡ pulled_by_boxes k xs + pulled_by_boxes k ys
@@ -84,7 +83,10 @@ module _ (specs : List Spec) (kept : List Kind) (before after ended : List BoxPi
   taken = taken_for kinds before
 
   same-count : length taken ≡ length ended
-  same-count = grind (arith, run.count, length-append, length-map, taken-length)
+  same-count = sym run.boxes.count
+
+  abbrev given : List BoxPicture
+  given = run.back.given
 
   -- a box that is kept for another node isn't of the kind
   other-kind : (n : ℕ) → length specs ≤ n → n < length taken → is_of k (box_at taken n) ≡ false
@@ -94,28 +96,28 @@ module _ (specs : List Spec) (kept : List Kind) (before after ended : List BoxPi
       let all = length-append (kinds_of specs) kept in
       let len = taken-length kinds before in
       let place : n ≡ length (kinds_of specs) + (n - length specs) = omega (arith, le, each) in
-      let at : (box_at taken n).kind ≡ get_or kept (n - length specs) kind.Csv =
-      sym (get_or-map (λ (p : BoxPicture). p.kind) taken n no_box kind.Csv lt)
-      ∙ ap (λ l. get_or l n kind.Csv) (taken-kinds kinds before stock)
-      ∙ ap (λ m. get_or kinds m kind.Csv) place
-      ∙ get_or-append-add (kinds_of specs) kept (n - length specs) kind.Csv in
+      let at : (box_at taken n).kind ≡ get_or kept (n - length specs) no_box.kind =
+      sym (get_or-map (λ (p : BoxPicture). p.kind) taken n no_box no_box.kind lt)
+      ∙ ap (λ l. get_or l n no_box.kind) (taken-kinds kinds before stock)
+      ∙ ap (λ m. get_or kinds m no_box.kind) place
+      ∙ get_or-append-add (kinds_of specs) kept (n - length specs) no_box.kind in
       ap (λ j. same_kind j k) at
-      ∙ others (n - length specs) kind.Csv (omega (arith, le, lt, len, all, each))
+      ∙ others (n - length specs) no_box.kind (omega (arith, le, lt, len, all, each))
 
   pub kept-other : (n : ℕ) → length specs ≤ n → n < length ended → is_of k (box_at ended n) ≡ false
   kept-other n le lt = grind (arith, same-count, ended-later, other-kind)
 
   each-given : (n : ℕ) → n < length taken
-      → IsGivenMore k (box_at taken n) (box_at ended n) (box_at run.given n)
+      → IsGivenMore k (box_at taken n) (box_at ended n) (box_at given n)
   each-given n lt =
       let in_ended : n < length ended = subst (λ m. n < m) same-count lt in
       let l = ended-later specs kept before after ended run n in_ended in
-      let u = run.unloaded n in_ended in
+      let u = run.back.boxes.each n in_ended in
       record {
         ran = l.kind;
         given = u.kind ∙ l.kind;
         pulled = λ of. elim (cases_lt n (length specs)) [
-          | inl less ↦ u.counts.pulled ∙ (run.ran n less).pulled
+          | inl less ↦ u.counts.pulled ∙ (run.boxes.ran n less).pulled
           | inr past ↦ absurd (both_ways _ (other-kind n past lt) of)
         ];
       }
@@ -124,13 +126,13 @@ module _ (specs : List Spec) (kept : List Kind) (before after ended : List BoxPi
   -- loaded
   pub pulled-after : pulled_by_boxes k after ≡ pulled_by_boxes k before + pulled_since k ended
   pulled-after =
-      let rack = ap (λ l. pulled_by_boxes k l) run.rack in
+      let rack = ap (λ l. pulled_by_boxes k l) run.back.rack in
       omega (
         arith,
         rack,
-        pulled-append k left run.given,
+        pulled-append k left given,
         pulled-taken k kinds before stock,
-        pulled-given k taken ended run.given (sym same-count) (run.given_count ∙ sym same-count)
+        pulled-given k taken ended given run.boxes.count (run.back.boxes.count ∙ run.boxes.count)
             each-given,
       )
 
@@ -140,15 +142,15 @@ module _ (specs : List Spec) (kept : List Kind) (before after ended : List BoxPi
   kind-pulled n (inl e) = let all = pulled-after in inl (omega (arith, all, e))
   kind-pulled n (inr x) =
       let lt = x.in_range in
-      let u = run.unloaded x.place x.in_range in
-      let there : box_at after (length left + x.place) ≡ box_at run.given x.place =
-      ap (λ l. box_at l (length left + x.place)) run.rack ∙ at-append left run.given x.place in
-      let count : length after ≡ length left + length run.given =
-      ap (λ (l : List BoxPicture). length l) run.rack ∙ length-append left run.given in
-      let given = run.given_count in
+      let u = run.back.boxes.each x.place x.in_range in
+      let there : box_at after (length left + x.place) ≡ box_at given x.place =
+      ap (λ l. box_at l (length left + x.place)) run.back.rack ∙ at-append left given x.place in
+      let count : length after ≡ length left + length given =
+      ap (λ (l : List BoxPicture). length l) run.back.rack ∙ length-append left given in
+      let count_given = run.back.boxes.count in
       inr (record {
         place = length left + x.place;
-        in_range = omega (arith, count, given, lt);
+        in_range = omega (arith, count, count_given, lt);
         of_kind = ap (λ (p : BoxPicture). is_of k p) there ∙ ap (λ j. same_kind j k) u.kind
             ∙ x.of_kind;
         full = ap (λ (p : BoxPicture). p.pulled) there ∙ u.counts.pulled ∙ x.full;

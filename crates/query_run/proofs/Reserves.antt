@@ -1,11 +1,9 @@
 -- What a plan keeps for its lists: which nodes each reserve has, and that they make a graph.
-use Rattle.query_run.proofs.Imports.{All, All-append, All-nil, All-replicate, AreReserves, Bool, DraftNode, IsGraph, IsGraphSoFar, KeepsBehind, Kind, List, PartSpec, PlanReserve, Reserve, Wire, [], and_from, and_parts, ap, append-nil, append_assoc, arith, cases_Bool, cases_lt, edges_kept, eq-eqb, eqb-true, false, get_or, get_or-append_seam, get_or_append_left, graph-reserved, holds_node, inl, inr, is-gapless, is_reserved, kind_of, kinds_reserved, le-leb, leb-true, length, length-append, length-flat_map, length-replicate, list_any-append, lt-leb, lt-ltb, ltb-true, nat_le, ne_eqb, no_reserve, none-reserved, refl, replicate, replicate-append-replicate, reserve-added, reserve_at, reserve_of, reserved_edges, reserved_nodes, reserves_behind, reserves_from, same_kind, spec_at, specs_in, subst, suc, sum_by-cons, sum_by_push, sym, take, true, wire_at, zero, ℕ, ◌&&◌, ◌++◌, ◌+◌, ◌<◌, ◌||◌, ◌∙◌, ◌∷◌, ◌≡◌, ◌≢◌, ◌≤◌}
-use Rattle.query_model.specs.declared.processor_spec.Kind.TheVariants as kind
-use Rattle.query_model.specs.declared.processor_spec.Spec.TheVariants as spec
+use Rattle.query_run.proofs.Imports.{All, All-append, All-nil, All-replicate, AreReserves, Bool, DraftNode, IsGraph, IsGraphSoFar, KeepsBehind, Kind, List, PartSpec, PlanReserve, Reserve, Wire, [], and_from, and_parts, ap, append-nil, append_assoc, arith, cases_Bool, cases_lt, edges_kept, eq-eqb, eqb-true, false, get_or, get_or-append_seam, get_or_append_left, graph-reserved, grown_kind, holds_node, inl, inr, is-gapless, is_reserved, kind_of, kinds_reserved, le-leb, leb-true, length, length-append, length-flat_map, length-replicate, list_any-append, list_source, lt-leb, lt-ltb, ltb-true, nat_le, ne_eqb, no_reserve, none-reserved, refl, replicate, replicate-append-replicate, reserve-added, reserve_at, reserve_of, reserved_edges, reserved_nodes, reserves_behind, reserves_from, row_of, spec_at, specs_in, subst, suc, sum_by-cons, sum_by_push, sym, take, true, wire_at, zero, ℕ, ◌&&◌, ◌++◌, ◌+◌, ◌<◌, ◌||◌, ◌∙◌, ◌∷◌, ◌≡◌, ◌≢◌, ◌≤◌}
 
 -- what is kept for a list at node n
 abbrev pub list_kept : ℕ → PlanReserve
-list_kept n = record { node = n; kinds = replicate 32 kind.Csv; edges = 32 }
+list_kept n = record { node = n; kinds = replicate 32 grown_kind; edges = 32 }
 
 pub kept-nodes : (r : PlanReserve) (rs : List PlanReserve)
     → reserved_nodes (r ∷ rs) ≡ length r.kinds + reserved_nodes rs
@@ -64,7 +62,7 @@ pub record IsListReserve (r : Reserve) (first : ℕ) : Type 0 where
 
 -- the list at place m of the nodes has it, as node k
 pub list-reserve : (nodes edges n : ℕ) (zs : List DraftNode) (m k first : ℕ) → m < length zs
-    → same_kind (kind_of (spec_at (specs_in zs) m)) kind.List ≡ true → k ≡ n + m
+    → (row_of (kind_of (spec_at (specs_in zs) m))).reads_list ≡ true → k ≡ n + m
     → first ≡ nodes + reserved_nodes (reserves_from n (take m zs))
     → IsListReserve (reserve_of (reserves_behind nodes edges (reserves_from n zs)) k) first
 unfolding spec_at
@@ -78,14 +76,14 @@ list-reserve nodes edges n (z ∷ zs) (suc m) k first lt list at is =
 
 -- what is kept for the list that node m reads
 module _ (nodes : List DraftNode) (edges m : ℕ) (list : PartSpec) (own : m < length nodes)
-    (reads : spec_at (specs_in nodes) m ≡ spec.List list) where
+    (reads : spec_at (specs_in nodes) m ≡ list_source list) where
   abbrev its_reserve : Reserve
   its_reserve = reserve_of (reserves_behind (length nodes) edges (reserves_from 0 nodes)) m
 
   pub kept-of : IsListReserve its_reserve
       (length nodes + reserved_nodes (reserves_from 0 (take m nodes)))
   kept-of = list-reserve (length nodes) edges 0 nodes m m _ own
-      (ap (λ s. same_kind (kind_of s) kind.List) reads) (omega arith) refl
+      (ap (λ s. (row_of (kind_of s)).reads_list) reads) (omega arith) refl
 
   -- it holds each of its nodes, which lies behind those of the plan
   pub held-of : (k : ℕ) → k < 32 → holds_node (its_reserve.first_node + k) its_reserve ≡ true
@@ -177,7 +175,7 @@ module _ (ranks : List ℕ) (wires : List Wire) (base : IsGraph ranks wires []) 
   keeps-from n [] rs k p e all h le earlier first edge is few few_edges =
       let same : k ≡ all = omega (arith, is) in rw append-nil (subst (λ m. Keeps rs m) same h)
   keeps-from n (z ∷ zs) rs k p e all h le earlier first edge is few few_edges =
-      elim (cases_Bool (same_kind (kind_of z.spec) kind.List)) [
+      elim (cases_Bool (row_of (kind_of z.spec)).reads_list) [
         | inr other ↦ rw other (keeps-from (suc n) zs rs k p e all h (omega (arith, le))
             (λ j lt. let less = earlier j lt in omega (arith, less)) first edge (rw other at is) few
             (rw other at few_edges))
@@ -260,11 +258,11 @@ edges-as-nodes n (z ∷ zs) =
     grind (arith, nodes, edges, edges-as-nodes (suc n) zs)
 
 -- only sources are kept
-pub kept-sources : (P : Kind → Type 0) → P kind.Csv → (n : ℕ) (zs : List DraftNode)
+pub kept-sources : (P : Kind → Type 0) → P grown_kind → (n : ℕ) (zs : List DraftNode)
     → All P (kinds_reserved (reserves_from n zs))
 kept-sources P csv n [] = All-nil P
-kept-sources P csv n (z ∷ zs) = elim (cases_Bool (same_kind (kind_of z.spec) kind.List)) [
-  | inl e ↦ rw e (All-append P (replicate 32 kind.Csv) _ (All-replicate P 32 kind.Csv csv)
+kept-sources P csv n (z ∷ zs) = elim (cases_Bool (row_of (kind_of z.spec)).reads_list) [
+  | inl e ↦ rw e (All-append P (replicate 32 grown_kind) _ (All-replicate P 32 grown_kind csv)
       (kept-sources P csv (suc n) zs))
   | inr e ↦ rw e (kept-sources P csv (suc n) zs)
 ]

@@ -1,6 +1,5 @@
 -- The kinds in their order, and how many boxes of each a rack has.
 use Rattle.query_run.proofs.Imports.{BoxPicture, HasBoxes, KINDS, Kind, List, ap, arith, cases_lt, count_by, get_or, get_or-map, get_or-range_with_len, get_or_past, inl, inr, is_of, kind-at, kind_place, length, subst, sym, ℕ, ◌+◌, ◌<◌, ◌∙◌, ◌≡◌, ◌≤◌}
-use Rattle.query_model.specs.declared.processor_spec.Kind.TheVariants as kind
 
 -- of each kind before this place the rack has the boxes that are needed
 pub record HasBefore (place : ℕ) (needed : Kind → ℕ) (boxes : List BoxPicture) : Type 0 where

@@ -10,17 +10,17 @@ use Rattle.query_model.specs.declared.checked.TableUse.TheVariants.{Declared}
 use Rattle.query_model.specs.declared.processor_spec.PartSpec.{PartSpec}
 use Rattle.query_model.specs.declared.processor_spec.Spec.{Spec}
 use Rattle.query_model.specs.declared.processor_spec.Kind.{Kind}
-use Rattle.query_model.specs.declared.processor_spec.Spec.TheVariants as spec
 use Rattle.command_line.specs.Words.{command_of}
 use Rattle.command_line.specs.declared.words.Command.{Command}
-use Rattle.proc_api.specs.Names.{BoxPicture, IsLongFile, raised}
+use Rattle.proc_api.specs.Names.{BoxPicture, FileRead, IsLongFile, NoFile, PartFile, PartsFile, file_read, raised}
 use Rattle.exec_laws.specs.Names.{box_at, IsStuck}
 use Rattle.exec_laws.specs.declared.edges.StuckNode.{StuckNode}
 use Rattle.exec_laws.specs.declared.growth.GrowthFlaw.{GrowthFlaw}
 use Rattle.plan_laws.specs.Ended.{used_part}
 use Rattle.plan_laws.specs.declared.nodes.DraftNode.{DraftNode}
 use Rattle.pipeline_exec.specs.Ends.{EndsBadly, HasGrownByAll}
-use Rattle.plan_run.specs.Plans.{GivesBack, GraphBegins, spec_at, taken_at}
+use Rattle.plan_run.specs.Boxes.{spec_at}
+use Rattle.plan_run.specs.Plans.{GivesBack, GraphBegins, taken_at}
 use Rattle.query_run.specs.declared.ending.PartName.{PartName}
 use Rattle.query_run.specs.declared.ending.PartFailure.{PartFailure}
 use Rattle.query_run.specs.declared.ending.PartFailure.TheVariants as part
@@ -31,6 +31,7 @@ use Rattle.query_run.specs.declared.ending.Failure.TheVariants as failure
 use Rattle.plan_laws.specs.Boxes.{reserved_nodes}
 use Rattle.plan_laws.specs.Refusals.{first_crowded}
 use Rattle.plan_laws.specs.Shapes.{reserves_from}
+use Rattle.plan_laws.specs.Steps.{list_source}
 use Rattle.query_run.specs.Racks.{boxes_for, kinds_for, plan_kinds, specs_in, IsRunnable, IsShort, NamesFewPaths, OverFiles, RanPlan}
 use Rattle.query_run.specs.Commands.{IsRefusedFor, OfCommand, OfQuery}
 use Rattle.query_run.specs.Steps.{formed}
@@ -70,18 +71,22 @@ abbrev pub IsFileNamed : Command → Checked → Files → PartName → List ℕ
 IsFileNamed c q files name path = IsListNamed c q name 0 path
     ⊎ ((p : UsedPart) × IsPartNamed c q files name p × (p.path ≡ path))
 
+abbrev pub IsReadNamed : Command → Checked → PartName → FileRead → Type 0
+IsReadNamed c q name NoFile = ⊥
+IsReadNamed c q name (PartFile part) =
+    (files : Files) → IsPartNamed c q files name (used_part part)
+IsReadNamed c q name (PartsFile list) = IsListNamed c q name 0 list.path
+
 -- a node of this spec reads the part or the list with this name
 abbrev pub ReadsNamed : Command → Checked → PartName → Spec → Type 0
-ReadsNamed c q name (spec.Csv part) = (files : Files) → IsPartNamed c q files name (used_part part)
-ReadsNamed c q name (spec.List list) = IsListNamed c q name 0 list.path
-ReadsNamed c q name _ = ⊥
+ReadsNamed c q name s = IsReadNamed c q name (file_read (Some s))
 
 -- the box of the node is one of those that are kept for a list: the Pth of them serves its part P
 pub record KeptNamed (c : Command) (q : Checked) (nodes : List DraftNode) (node : ℕ)
     (name : PartName) : Type 0 where
   pub lister : ℕ
   pub list : PartSpec
-  pub reads : spec_at (specs_in nodes) lister ≡ spec.List list
+  pub reads : spec_at (specs_in nodes) lister ≡ list_source list
   pub place : ℕ
   pub in_range : place < 32
   pub is : node ≡ length nodes + reserved_nodes (reserves_from 0 (take lister nodes)) + place
@@ -118,7 +123,7 @@ pub record FailsAtPart (name : PartName) (f : PartFailure) (c : Command) (q : Ch
   pub node : ℕ
   pub serves : ServesNamed c q ran.nodes node name
   pub fails : PartFailsFor f c q name before (taken_at (kinds_for ran.nodes) before node)
-      (box_at ran.runs.given node)
+      (box_at ran.runs.back.given node)
 
 -- the run was left stuck with this node, or ended by a growth of the node that has a flaw
 abbrev pub IsStoppedBy : List DraftNode → (ended : List BoxPicture) → (node : ℕ) → Type 0

@@ -1,7 +1,8 @@
 -- What a run means: the text that an answer of its query has over the files' rows, and every other
 -- end.
-use Rattle.std.specs.Prelude.{◌<◌, ◌≡◌, ◌≢◌, ◌⊎◌, ℕ, Bool, List, [], flat_map, length, Option, Some, None, ⊤}
+use Rattle.std.specs.Prelude.{◌<◌, ◌≡◌, ◌≢◌, ◌⊎◌, ℕ, Bool, IfErr, IfOk, List, Result, Vec, [], flat_map, length, Option, Some, None, ⊤}
 use Rattle.std.specs.List.{All}
+use Rattle.std.specs.declared.alloc.Global.{Global}
 use Rattle.outside_io.specs.Growth.{GrewBy, GrewByPrefix, Untouched}
 use Rattle.chunk_data.specs.Values.{Row}
 use Rattle.query_model.specs.Names.{IsAnswer, output_rows, flow, answer_text, Files, UsedPart, database, join_use, parts_used, used_parts, AllPartsValid, IsValidUsed}
@@ -77,6 +78,15 @@ pub record MakesText (command : Command) (q : Checked) (text : List ℕ)
   pub runnable : IsRunnable command q before
   pub ran : RanPlan command q before after
   pub answers : OverFiles before (λ files. PullsItsFlow command files text before after)
+
+-- What is made of a rack's boxes comes to a text, or fails for its cause, and leaves the boxes
+-- blank.
+pub record MakesOrFails {E : Type 0} (Makes : List ℕ → (before after : List BoxPicture) → Type 0)
+    (Fails : E → (before after : List BoxPicture) → Type 0) (r : Result (Vec ℕ Global) E)
+    (before after : List BoxPicture) : Type 0 where
+  pub blank : All IsBlank after
+  pub text : IfOk r (λ text. Makes text.items before after)
+  pub cause : IfErr r (λ f. Fails f before after)
 
 -- ---- the theorem
 

@@ -8,8 +8,7 @@ use Rattle.query_model.specs.declared.query.TableDecl.{TableDecl}
 use Rattle.query_model.specs.declared.processor_spec.Kind.{Kind}
 use Rattle.query_model.specs.declared.processor_spec.Spec.{Spec}
 use Rattle.query_model.specs.declared.checked.Checked.{Checked}
-use Rattle.query_model.specs.declared.processor_spec.Spec.TheVariants as spec
-use Rattle.proc_api.specs.Names.{BoxPicture, chunk_rows}
+use Rattle.proc_api.specs.Names.{BoxPicture, FileRead, NoFile, PartFile, PartsFile, chunk_rows, file_read, no_spec}
 use Rattle.proc_api.specs.declared.status.WorkFault.TheVariants as fault
 use Rattle.command_line.specs.declared.words.Command.{Command}
 use Rattle.plan_laws.specs.Drafts.{no_draft, with_nodes}
@@ -38,12 +37,15 @@ use Rattle.query_run.specs.declared.planning.PartPlace.{PartPlace}
 abbrev pub node_specs : List PlanNode → List Spec
 node_specs nodes = map (λ (n : PlanNode). n.spec) nodes
 
+abbrev pub file_place : FileRead → PartPlace
+file_place NoFile = record { table = 0; part = 0 }
+file_place (PartFile part) = record { table = part.table; part = part.part }
+file_place (PartsFile list) = record { table = list.table; part = list.part }
+
 -- the part that a source reads, by the places of its table and of itself, 0 of a list; no other
 -- kind reads one
 abbrev pub part_place : Spec → PartPlace
-part_place (spec.Csv part) = record { table = part.table; part = part.part }
-part_place (spec.List list) = record { table = list.table; part = list.part }
-part_place _ = record { table = 0; part = 0 }
+part_place s = file_place (file_read (Some s))
 
 abbrev pub name_of : Option TableDecl → List ℕ
 name_of None = []
@@ -57,7 +59,7 @@ name_at tables (Some place) = record {
 }
 
 abbrev pub spec_read : List Spec → ℕ → Spec
-spec_read specs n = slice_index_or specs n spec.Collect
+spec_read specs n = slice_index_or specs n no_spec
 
 -- the parts of so many boxes that are kept for the list of a table, from part k on
 abbrev pub kept_places : (table k count : ℕ) → List PartPlace

@@ -1,11 +1,11 @@
-ghost use Rattle.std.specs.Prelude.{◌≡◌, ◌≤◌, map, slice_get, string_bytes, IfOk, IfErr, Some, None, if◌then◌else◌};
+ghost use Rattle.std.specs.Prelude.{◌≡◌, ◌≤◌, map, slice_get, string_bytes, Some, None, if◌then◌else◌};
 ghost use Rattle.std.specs.List.{All};
 ghost use Rattle.std.specs.Option.{option_copied};
 ghost use Rattle.command_line.specs.Words.{IsWithinLimits};
 ghost use Rattle.proc_api.specs.Names.{IsBlank};
-ghost use Rattle.plan_run.specs.Plans.{kinds_taken, LeavesRack, MayRunPlan, PlanFails};
+ghost use Rattle.plan_run.specs.Plans.{MayRunPlan, PlanEnds};
 ghost use Rattle.query_run.specs.declared.ending.PlanFailure.TheVariants as failures;
-ghost use Rattle.query_run.specs.Names.{IsRunnable, IsCheckedCommand, OfQuery, FailsFor, PlanFailsFor, MakesText, failure_of, name_at, GivesText, IsPlanFault, IsPlanned, Tells};
+ghost use Rattle.query_run.specs.Names.{IsRunnable, IsCheckedCommand, OfQuery, FailsFor, PlanFailsFor, MakesOrFails, MakesText, failure_of, name_at, GivesText, IsPlanFault, IsPlanned, Tells};
 
 use crate::checking::check_command;
 use crate::ending::{Failure, PartFailure, PlanFailure};
@@ -30,14 +30,12 @@ pub(crate) fn make_text<R: AllocGlobal + Threads + Wait + Sync>(
     rack: &mut Rack,
 ) -> Result<Vec<u8>, Failure>
     requires blank { All IsBlank (map (λ b. seen (b.vtable, b.value)) rack.old.boxes.items) }
-    ensures blank { All IsBlank (map (λ b. seen (b.vtable, b.value)) rack.new.boxes.items) }
-    ensures text { IfOk result (λ text. OfQuery (map string_bytes words.now)
-        (λ c q. MakesText c q text.items
+    ensures { MakesOrFails
+        (λ text before after. OfQuery (map string_bytes words.now)
+        (λ c q. MakesText c q text before after))
+        (λ f. FailsFor f (map string_bytes words.now)) result
         (map (λ b. seen (b.vtable, b.value)) rack.old.boxes.items)
-        (map (λ b. seen (b.vtable, b.value)) rack.new.boxes.items))) }
-    ensures cause { IfErr result (λ f. FailsFor f (map string_bytes words.now)
-        (map (λ b. seen (b.vtable, b.value)) rack.old.boxes.items)
-        (map (λ b. seen (b.vtable, b.value)) rack.new.boxes.items)) }
+        (map (λ b. seen (b.vtable, b.value)) rack.new.boxes.items) }
 {
     match read_words(rt.alloc(), words) {
         Ok(command) => match check_command(rt.alloc(), &command) {
@@ -62,13 +60,10 @@ fn checked_text<R: AllocGlobal + Threads + Wait + Sync>(
     requires within { IsWithinLimits command.now }
     requires checked { IsCheckedCommand command.now checked.now }
     requires blank { All IsBlank (map (λ b. seen (b.vtable, b.value)) rack.old.boxes.items) }
-    ensures blank { All IsBlank (map (λ b. seen (b.vtable, b.value)) rack.new.boxes.items) }
-    ensures text { IfOk result (λ text. MakesText command.now checked.now text.items
+    ensures { MakesOrFails (MakesText command.now checked.now)
+        (λ f. PlanFailsFor f command.now checked.now) result
         (map (λ b. seen (b.vtable, b.value)) rack.old.boxes.items)
-        (map (λ b. seen (b.vtable, b.value)) rack.new.boxes.items)) }
-    ensures cause { IfErr result (λ f. PlanFailsFor f command.now checked.now
-        (map (λ b. seen (b.vtable, b.value)) rack.old.boxes.items)
-        (map (λ b. seen (b.vtable, b.value)) rack.new.boxes.items)) }
+        (map (λ b. seen (b.vtable, b.value)) rack.new.boxes.items) }
 {
     let lanes = command.threads;
     let rows = command.chunk_rows;
@@ -127,13 +122,10 @@ fn planned_text<R: AllocGlobal + Threads + Wait + Sync>(
     requires blank { All IsBlank (map (λ b. seen (b.vtable, b.value)) rack.old.boxes.items) }
     requires runnable { IsRunnable command.now checked.now
         (map (λ b. seen (b.vtable, b.value)) rack.old.boxes.items) }
-    ensures blank { All IsBlank (map (λ b. seen (b.vtable, b.value)) rack.new.boxes.items) }
-    ensures text { IfOk result (λ text. MakesText command.now checked.now text.items
+    ensures { MakesOrFails (MakesText command.now checked.now)
+        (λ f. PlanFailsFor f command.now checked.now) result
         (map (λ b. seen (b.vtable, b.value)) rack.old.boxes.items)
-        (map (λ b. seen (b.vtable, b.value)) rack.new.boxes.items)) }
-    ensures cause { IfErr result (λ f. PlanFailsFor f command.now checked.now
-        (map (λ b. seen (b.vtable, b.value)) rack.old.boxes.items)
-        (map (λ b. seen (b.vtable, b.value)) rack.new.boxes.items)) }
+        (map (λ b. seen (b.vtable, b.value)) rack.new.boxes.items) }
 {
     let Ok(places) = part_places(rt.alloc(), &plan) else {
         return Err(PlanFailure::Memory);
@@ -168,16 +160,11 @@ fn graph_text<R: AllocGlobal + Threads + Wait + Sync>(
 ) -> Result<Vec<u8>, PlanFault>
     requires runnable { MayRunPlan graph workers
         (map (λ b. seen (b.vtable, b.value)) rack.old.boxes.items) }
-    ensures rack { LeavesRack (kinds_taken graph.specs.items graph.kept)
+    ensures { PlanEnds graph
+        (λ before after text. GivesText header names.now graph.specs.items graph.kept graph.form
+        before after text.items) result
         (map (λ b. seen (b.vtable, b.value)) rack.old.boxes.items)
         (map (λ b. seen (b.vtable, b.value)) rack.new.boxes.items) }
-    ensures blank { All IsBlank (map (λ b. seen (b.vtable, b.value)) rack.new.boxes.items) }
-    ensures text { IfOk result (λ text. GivesText header names.now graph.specs.items graph.kept
-        graph.form (map (λ b. seen (b.vtable, b.value)) rack.old.boxes.items)
-        (map (λ b. seen (b.vtable, b.value)) rack.new.boxes.items) text.items) }
-    ensures fault { IfErr result (PlanFails graph
-        (map (λ b. seen (b.vtable, b.value)) rack.old.boxes.items)
-        (map (λ b. seen (b.vtable, b.value)) rack.new.boxes.items)) }
 {
     match run_plan(rt, rack, graph, workers) {
         Ok(chunks) => {

@@ -8,11 +8,12 @@ pub use Rattle.plan_laws.specs.Plans.{plan_nodes}
 pub use Rattle.plan_laws.specs.Queries.{call_arguments, column_items, state_call, with_argument}
 pub use Rattle.plan_laws.specs.Same.{forms}
 pub use Rattle.plan_laws.specs.Shapes.{boxes_reserved, boxes_taken, kept_at, plan_node_of, reserves_from}
-pub use Rattle.plan_laws.specs.Steps.{SourceReading, part_sources, part_spec, path_sources, select_plan, table_reading, table_sources}
+pub use Rattle.plan_laws.specs.Steps.{SourceReading, part_source, part_sources, part_spec, path_sources, select_plan, table_reading, table_sources}
 pub use Rattle.plan_laws.specs.declared.nodes.DraftNode.{DraftNode}
 pub use Rattle.plan_laws.specs.declared.plan.PlanNode.{PlanNode}
 pub use Rattle.plan_laws.specs.declared.plan.PlanReserve.{PlanReserve}
 pub use Rattle.proc_api.specs.Forms.{spec_form}
+pub use Rattle.proc_api.specs.KindRows.{grown_kind}
 pub use Rattle.proc_api.specs.Prelude.{AggCall, Kind, PartSpec, Spec, formula}
 pub use Rattle.query_model.specs.Names.{Expr}
 pub use Rattle.query_model.specs.declared.checked.Checked.{Checked}

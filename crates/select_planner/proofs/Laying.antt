@@ -1,7 +1,6 @@
 -- The steps of a plan, laid down one behind another.
 use Rattle.std.proofs.lemmas.Grind.{common_steps}
-use Rattle.select_planner.proofs.Imports.{AggCall, Bool, Checked, Declared, DraftNode, Expr, Kind, List, None, PartSpec, PartsDecl, Paths, PlanNode, PlanReserve, SourceReading, Spec, TableDecl, TableUse, [], append-nil, append_assoc, arith, boxes_reserved, boxes_taken, call_arguments, column_items, count_by-le-length, forms, formula, get_or, kept_at, lane_nodes, length, length-take-le, map, map-append, nodes_behind, part_sources, part_spec, path_sources, paths-length, plan_nodes, refl, reserved-le, reserved_nodes, reserves_from, select_plan, slice_get, source_nodes, spec_form, suc, sum_by, sum_by-take-le, sum_by_more, table_sources, take, take_more, with_argument, zero, ℕ, ◌++◌, ◌+◌, ◌<◌, ◌∷◌, ◌≡◌, ◌≤◌}
-use Rattle.query_model.specs.declared.processor_spec.Spec.TheVariants as spec
+use Rattle.select_planner.proofs.Imports.{AggCall, Bool, Checked, Declared, DraftNode, Expr, Kind, List, None, PartSpec, PartsDecl, Paths, PlanNode, PlanReserve, SourceReading, Spec, TableDecl, TableUse, [], append-nil, append_assoc, arith, boxes_reserved, boxes_taken, call_arguments, column_items, count_by-le-length, forms, formula, get_or, kept_at, lane_nodes, length, length-take-le, map, map-append, nodes_behind, part_source, part_sources, part_spec, path_sources, paths-length, plan_nodes, refl, reserved-le, reserved_nodes, reserves_from, select_plan, slice_get, source_nodes, spec_form, suc, sum_by, sum_by-take-le, sum_by_more, table_sources, take, take_more, with_argument, zero, ℕ, ◌++◌, ◌+◌, ◌<◌, ◌∷◌, ◌≡◌, ◌≤◌}
 
 -- ---- lanes
 
@@ -38,7 +37,7 @@ sources-behind ends i (s ∷ specs) = search (arith, sources-behind ends (suc i)
 
 paths-push : (r : SourceReading) (k : ℕ) (paths : List (List ℕ)) (path : List ℕ)
     → path_sources r k (paths ++ path ∷ [])
-    ≡ path_sources r k paths ++ spec.Csv (part_spec r (k + length paths) path) ∷ []
+    ≡ path_sources r k paths ++ part_source (part_spec r (k + length paths) path) ∷ []
 paths-push r k [] path = search (arith)
 paths-push r k (p ∷ paths) path = search (arith, paths-push r (suc k) paths path)
 
@@ -48,7 +47,7 @@ pub path-more : (r : SourceReading) (place : ℕ) (paths : List (List ℕ)) (pat
     (x y z : List DraftNode) → i < length paths → path ≡ get_or paths i path
     → part ≡ part_spec r (i + 1) path
     → forms y ≡ forms x ++ forms (source_nodes place (path_sources r 1 (take i paths)))
-    → forms z ≡ forms y ++ forms (source_nodes (place + i) (spec.Csv part ∷ []))
+    → forms z ≡ forms y ++ forms (source_nodes (place + i) (part_source part ∷ []))
     → forms z ≡ forms x ++ forms (source_nodes place (path_sources r 1 (take (i + 1) paths)))
 path-more r at paths path part i x y z lt is same h g = grind (
   arith,

@@ -1,15 +1,14 @@
 // What a grouped query fills in of the steps.
 ghost use Rattle.std.specs.Prelude.{◌≡◌, ◌++◌, [], map, IfOk, OnOk};
 ghost use Rattle.query_model.specs.Formulas.{formula};
-ghost use Rattle.chunk_data.specs.Values.{type_at as type_at_place};
-ghost use Rattle.plan_laws.specs.Queries.{call_arguments, column_items, group_spec, shape_types, state_call, with_argument};
-ghost use Rattle.query_model.specs.Names.{group_types, type_of};
+ghost use Rattle.plan_laws.specs.Queries.{call_arguments, column_items, group_spec, state_call, with_argument};
 
-use chunk_data::{ColumnType, List, Memory, type_at};
-use query_model::checked::{Expr, Grouping, Shape};
-use query_model::plain::{copy_expr, expr_type};
+use chunk_data::{ColumnType, List, Memory};
+use query_model::checked::{Expr, Grouping};
+use query_model::plain::copy_expr;
 use query_model::processor_spec::{GroupSpec, StateCall};
-use query_model::query::{AggCall, AggOp, ExprOf};
+use query_model::query::{AggCall, ExprOf};
+use query_model::typing::{call_type, types_at};
 use std::alloc::Global;
 
 /// The columns at these places.
@@ -65,7 +64,7 @@ pub(crate) fn group_spec(
 ) -> Result<GroupSpec, Memory>
     ensures { IfOk result (λ spec. spec ≡ group_spec grouping.now types.now rows) }
 {
-    let keys = key_types(alloc, grouping.keys.as_slice(), types)?;
+    let keys = types_at(alloc, grouping.keys.as_slice(), types)?;
     let calls = states_of(alloc, grouping.calls.as_slice(), types)?;
     Ok(GroupSpec {
         keys,
@@ -73,63 +72,6 @@ pub(crate) fn group_spec(
         lone: grouping.lone,
         rows,
     })
-}
-
-fn key_types(alloc: Global, keys: &[u32], types: &[ColumnType]) -> Result<List<ColumnType>, Memory>
-    ensures { IfOk result (λ l. l ≡ map (type_at_place types.now) keys.now) }
-{
-    let mut of_keys = Vec::new(alloc);
-    for key in keys {
-        of_keys.push(type_at(types, *key as usize))?;
-    }
-    Ok(List::from_vec(of_keys))
-}
-
-/// The types of the rows that a shape makes of rows of these types.
-pub(crate) fn shape_types(
-    alloc: Global,
-    shape: &Shape,
-    types: &[ColumnType],
-) -> Result<List<ColumnType>, Memory>
-    ensures { IfOk result (λ l. l ≡ shape_types shape.now types.now) }
-{
-    match shape {
-        Shape::Plain(items) => item_types(alloc, items.as_slice(), types),
-        Shape::Grouped(grouping) => {
-            let row = group_types(alloc, grouping, types)?;
-            key_types(alloc, grouping.picks.as_slice(), row.as_slice())
-        }
-    }
-}
-
-fn item_types(
-    alloc: Global,
-    items: &[Expr],
-    types: &[ColumnType],
-) -> Result<List<ColumnType>, Memory>
-    ensures { IfOk result (λ l. l ≡ map (λ e. type_of e types.now) items.now) }
-{
-    let mut of_items = Vec::new(alloc);
-    for item in items {
-        of_items.push(expr_type(item, types))?;
-    }
-    Ok(List::from_vec(of_items))
-}
-
-/// The types of a row of keys and calls.
-fn group_types(
-    alloc: Global,
-    grouping: &Grouping,
-    types: &[ColumnType],
-) -> Result<List<ColumnType>, Memory>
-    ensures { IfOk result (λ l. l ≡ group_types grouping.now types.now) }
-{
-    let mut row = key_types(alloc, grouping.keys.as_slice(), types)?.into_vec();
-    let calls = grouping.calls.as_slice();
-    for call in calls {
-        row.push(state_of(call, types).kind)?;
-    }
-    Ok(List::from_vec(row))
 }
 
 fn states_of(
@@ -149,9 +91,8 @@ fn states_of(
 fn state_of(call: &AggCall<u32>, types: &[ColumnType]) -> StateCall
     ensures { result ≡ state_call types.now call.now }
 {
-    let kind = match (call.op, &call.arg) {
-        (AggOp::Count, _) | (_, None) => ColumnType::UInt64,
-        (_, Some(e)) => expr_type(e, types),
-    };
-    StateCall { op: call.op, kind }
+    StateCall {
+        op: call.op,
+        kind: call_type(call, types),
+    }
 }

@@ -1,7 +1,7 @@
 // Blocks of nodes, added behind a list of nodes.
 ghost use Rattle.std.specs.Prelude.{◌≡◌, ◌≤◌, ◌++◌, ◌∷◌, [], IfOk, OnOk, Some};
-ghost use Rattle.plan_laws.specs.Blocks.{lane_nodes, joint_node};
-ghost use Rattle.plan_laws.specs.Plans.{filter_nodes, gather_nodes, limit_nodes, sort_nodes};
+ghost use Rattle.plan_laws.specs.Blocks.{lane_nodes, joint_node, nodes_behind};
+ghost use Rattle.plan_laws.specs.Plans.{filter_nodes, gather_nodes, limit_nodes, resize_node, sort_nodes};
 ghost use Rattle.plan_laws.specs.Same.{forms};
 ghost use Rattle.proc_api.specs.Forms.{spec_form};
 ghost use Rattle.select_planner.specs.Lanes.{lane_spec};
@@ -43,6 +43,38 @@ pub(crate) fn add_joint(
         gives,
     };
     add_node(nodes, node)
+}
+
+/// Adds a resize of the first open ends.
+pub(crate) fn add_resize(
+    nodes: &mut List<DraftNode>,
+    rank: u32,
+    takes: u32,
+    gives: u32,
+) -> Result<(), Memory>
+    ensures { OnOk result (forms nodes.new
+        ≡ forms nodes.old ++ forms (resize_node rank takes gives ∷ [])) }
+{
+    add_joint(nodes, Spec::Resize, rank, takes, gives)
+}
+
+/// Adds the resize of a second block of ends into one, behind the one end of the first.
+pub(crate) fn add_second_resize(
+    nodes: &mut List<DraftNode>,
+    rank: u32,
+    takes: u32,
+) -> Result<(), Memory>
+    ensures { OnOk result (forms nodes.new ≡ forms nodes.old
+        ++ forms (nodes_behind 1 (resize_node rank takes 1 ∷ []))) }
+{
+    let resize = DraftNode {
+        spec: Spec::Resize,
+        rank,
+        offset: 1,
+        takes,
+        gives: 1,
+    };
+    add_node(nodes, resize)
 }
 
 /// Adds the node of a lane.
@@ -127,7 +159,7 @@ pub(crate) fn add_gather(
         ≡ forms nodes.old ++ forms (gather_nodes order lanes)) }
 {
     match order {
-        None => add_joint(nodes, Spec::Resize, 12, lanes, 1),
+        None => add_resize(nodes, 12, lanes, 1),
         Some(order) => add_ordered(alloc, nodes, order, lanes),
     }
 }

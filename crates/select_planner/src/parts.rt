@@ -1,17 +1,18 @@
 // The sources of a used table.
-ghost use Rattle.std.specs.Prelude.{◌≡◌, ◌≤◌, ◌++◌, ◌∷◌, [], map, length, IfOk, IfErr, OnOk};
+ghost use Rattle.std.specs.Prelude.{◌≡◌, ◌≤◌, ◌++◌, ◌∷◌, [], map, length, replicate, IfOk, IfErr, OnOk};
 ghost use Rattle.query_model.specs.Database.{used_tables};
 ghost use Rattle.query_model.specs.declared.query.ColumnDecl.{ColumnDecl};
 ghost use Rattle.plan_laws.specs.Blocks.{source_nodes};
 ghost use Rattle.plan_laws.specs.Same.{forms};
 ghost use Rattle.plan_laws.specs.Refusals.{crowded, crowded_decl, first_crowded, path_count, IsCrowdedTable, IsDuePlanRefusal};
 ghost use Rattle.plan_laws.specs.Steps.{join_spec, part_sources, part_spec, path_sources, source_types, table_reading, table_sources, used_types};
+ghost use Rattle.proc_api.specs.KindRows.{grown_kind};
 
 use crate::lanes::add_node;
 use chunk_data::{Bytes, ColumnType, List, Memory};
 use plan_laws::{DraftNode, PlanRefusal};
 use query_model::checked::{Checked, CheckedJoin, TableUse};
-use query_model::processor_spec::{JoinSpec, PartSpec, Spec};
+use query_model::processor_spec::{JoinSpec, Kind, PartSpec, Spec};
 use query_model::query::{ColumnDecl, PartsDecl, TableDecl};
 use std::alloc::Global;
 
@@ -165,6 +166,17 @@ fn add_paths(
         add_source(nodes, Spec::Csv(part), reading.place + i as u32)?;
     }
     Ok(())
+}
+
+/// The kinds of the nodes that are kept for a list: a source for each part that it may name.
+pub(crate) fn listed_kinds(alloc: Global) -> Result<List<Kind>, Memory>
+    ensures { IfOk result (λ kinds. kinds ≡ replicate 32 grown_kind) }
+{
+    let mut kinds = Vec::new(alloc);
+    for _part in 0..MAX_PARTS {
+        kinds.push(Kind::Csv)?;
+    }
+    Ok(List::from_vec(kinds))
 }
 
 /// A file of the table, read as this part of it; a list is part 0.

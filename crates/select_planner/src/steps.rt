@@ -1,29 +1,32 @@
 // The steps of a plan.
-ghost use Rattle.std.specs.Prelude.{◌≡◌, ◌+◌, ◌≤◌, ◌++◌, ◌∷◌, [], map, length, replicate, IfOk, IfErr, None, OnOk};
-ghost use Rattle.query_model.specs.Database.{used_tables};
+ghost use Rattle.std.specs.Prelude.{◌≡◌, ◌+◌, ◌≤◌, ◌++◌, ◌∷◌, [], map, length, IfOk, IfErr, None, OnOk};
+ghost use Rattle.query_model.specs.Names.{shape_types, used_tables};
 ghost use Rattle.query_model.specs.declared.checked.Shape.TheVariants.{Grouped};
-ghost use Rattle.query_model.specs.declared.processor_spec.Kind.TheVariants as csv;
-ghost use Rattle.query_model.specs.declared.processor_spec.Spec.TheVariants.{Resize as resize_spec};
 ghost use Rattle.plan_laws.specs.Drafts.{AllFitDraft, no_draft, with_nodes};
-ghost use Rattle.plan_laws.specs.Blocks.{nodes_behind, joint_node, source_nodes};
+ghost use Rattle.plan_laws.specs.Blocks.{nodes_behind, source_nodes};
 ghost use Rattle.plan_laws.specs.Same.{forms};
 ghost use Rattle.plan_laws.specs.Plans.{plan_nodes, read_nodes, shape_nodes};
-ghost use Rattle.plan_laws.specs.Queries.{shape_of, shape_types};
+ghost use Rattle.plan_laws.specs.Queries.{shape_of};
 ghost use Rattle.plan_laws.specs.Refusals.{crowded, first_crowded, IsDuePlanRefusal};
 ghost use Rattle.plan_laws.specs.Shapes.{kept_at, plan_node_of, reserves_from, IsSoundPlan, LaysDown};
 ghost use Rattle.plan_laws.specs.Boxes.{reserved_nodes};
 ghost use Rattle.plan_laws.specs.Steps.{join_of, order_of, select_plan, source_types, table_sources};
 
-use crate::groups::{arguments_of, columns_of, group_spec, shape_types};
+use crate::groups::{arguments_of, columns_of, group_spec};
 use crate::lanes::{
-    LaneStep, add_filters, add_gather, add_joint, add_lanes, add_limit, add_node, add_sort,
+    LaneStep, add_filters, add_gather, add_joint, add_lanes, add_limit, add_resize,
+    add_second_resize, add_sort,
 };
-use crate::parts::{MAX_PARTS, SourceReading, add_sources, check_tables, join_spec, source_types};
+use crate::parts::{
+    MAX_PARTS, SourceReading, add_sources, check_tables, join_spec, listed_kinds, source_types,
+};
 use chunk_data::{ColumnType, List, Memory};
 use plan_laws::{DraftBuilder, DraftNode, Plan, PlanNode, PlanRefusal, PlanReserve, build};
+use proc_api::kind_row;
 use query_model::checked::{Checked, Expr, Grouping, Shape, TableUse};
-use query_model::processor_spec::{Kind, SortSpec, Spec};
+use query_model::processor_spec::{SortSpec, Spec};
 use query_model::query::TableDecl;
+use query_model::typing::shape_types;
 use std::alloc::Global;
 
 /// The plan of a checked query over the declared tables, with so many lanes, in chunks of at most
@@ -100,7 +103,7 @@ fn add_read(
 {
     let ends = add_sources(alloc, nodes, query.from, tables, reading)?;
     match &query.join {
-        None => add_joint(nodes, Spec::Resize, 2, ends, lanes),
+        None => add_resize(nodes, 2, ends, lanes),
         Some(join) => {
             let second = SourceReading {
                 header: reading.header,
@@ -108,11 +111,11 @@ fn add_read(
                 place: ends,
             };
             let joined = add_second_sources(alloc, nodes, join.table, tables, second)?;
-            add_joint(nodes, Spec::Resize, 2, ends, 1)?;
-            add_second_resize(nodes, joined)?;
+            add_resize(nodes, 2, ends, 1)?;
+            add_second_resize(nodes, 2, joined)?;
             let spec = join_spec(alloc, query.from, join, tables, reading.rows)?;
             add_joint(nodes, Spec::HashJoin(spec), 3, 2, 1)?;
-            add_joint(nodes, Spec::Resize, 4, 1, lanes)
+            add_resize(nodes, 4, 1, lanes)
         }
     }
 }
@@ -135,21 +138,6 @@ fn add_second_sources(
         (λ n. n ≡ length (table_sources tables.now reading.header reading.rows table)) }
 {
     add_sources(alloc, nodes, table, tables, reading)
-}
-
-/// Adds the resize of the second table's sources, a block behind the one end of FROM's.
-fn add_second_resize(nodes: &mut List<DraftNode>, sources: u32) -> Result<(), Memory>
-    ensures { OnOk result (forms nodes.new ≡ forms nodes.old
-        ++ forms (nodes_behind 1 (joint_node resize_spec 2 sources 1 ∷ []))) }
-{
-    let resize = DraftNode {
-        spec: Spec::Resize,
-        rank: 2,
-        offset: 1,
-        takes: sources,
-        gives: 1,
-    };
-    add_node(nodes, resize)
 }
 
 /// Adds what makes the output rows of the filtered ones, in their order, in one stream.
@@ -271,7 +259,7 @@ fn keep_for(
 ) -> Result<(), Memory>
     ensures { OnOk result (reserves.new ≡ reserves.old ++ kept_at n node.now) }
 {
-    if node.spec.kind() != Kind::List {
+    if !kind_row(node.spec.kind()).reads_list {
         return Ok(());
     }
     let kinds = listed_kinds(alloc)?;
@@ -284,17 +272,6 @@ fn keep_for(
         Ok(()) => Ok(()),
         Err(_) => Err(Memory),
     }
-}
-
-/// The kinds of the nodes that are kept for a list: a source for each part that it may name.
-fn listed_kinds(alloc: Global) -> Result<List<Kind>, Memory>
-    ensures { IfOk result (λ kinds. kinds ≡ replicate 32 csv.Csv) }
-{
-    let mut kinds = Vec::new(alloc);
-    for _part in 0..MAX_PARTS {
-        kinds.push(Kind::Csv)?;
-    }
-    Ok(List::from_vec(kinds))
 }
 
 fn nodes_of(alloc: Global, nodes: List<DraftNode>) -> Result<List<PlanNode>, Memory>

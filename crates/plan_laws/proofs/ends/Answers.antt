@@ -1,9 +1,8 @@
 -- The end of a run of a plan's graph, by its nodes and its collector.
-use Rattle.plan_laws.proofs.Imports.{KeepsWorked, List, Some, [], ap, arith, get_or, inl, inr, is_some, length, length-append, map, refl, subst, suc, sym, true, worked-where-fit, zero, ℕ, ◌++◌, ◌+◌, ◌<◌, ◌∙◌, ◌∷◌, ◌≡◌, ◌≤◌, ◌⊎◌, AllByRecursion, AllFitDraft, AllPull, ArePortsOf, BoxPicture, Draft, DraftNode, EachGivesIf, Files, GivesIf, HasRun, IsDraftGraph, KeepsRows, Lists, NodeForm, NodePort, PartSpec, Pulls, Spec, Stream, Wire, rows_together, box_at, collect_node, collector, consumer_of, few-inputs, few-outputs, forms, get_or-map, get_or_at, get_or_default, input_count, length-map, map-append, no_draft, node_form, output-below-count, output_count, part_spec, ports_of, producer_of, stream_rows, spec_form, unboxed, wire_at, with_nodes, BoxGives, HasEnded, HasListed, HasPulled, KeepsContract, IsListedNode, IsOrdinary, IsReady, IsUngrown, in_stream, out_stream, sources_of_files, stream_pulled_at, stream_pushed_at, reading_in, IsWorkOf}
+use Rattle.plan_laws.proofs.Imports.{KeepsWorked, List, Some, [], ap, arith, get_or, inl, inr, is_some, length, length-append, list_source, map, part_source, refl, subst, suc, sym, true, worked-where-fit, zero, ℕ, ◌++◌, ◌+◌, ◌<◌, ◌∙◌, ◌∷◌, ◌≡◌, ◌≤◌, ◌⊎◌, AllByRecursion, AllFitDraft, AllPull, ArePortsOf, BoxPicture, Draft, DraftNode, EachGivesIf, Files, GivesIf, HasRun, IsDraftGraph, KeepsRows, Lists, NodeForm, NodePort, PartSpec, Pulls, Spec, Stream, Wire, rows_together, box_at, collect_node, collector, consumer_of, few-inputs, few-outputs, forms, get_or-map, get_or_at, get_or_default, input_count, length-map, map-append, no_draft, node_form, output-below-count, output_count, part_spec, ports_of, producer_of, stream_rows, spec_form, unboxed, wire_at, with_nodes, BoxGives, HasEnded, HasListed, HasPulled, KeepsContract, IsListedNode, IsOrdinary, IsReady, IsUngrown, in_stream, out_stream, sources_of_files, stream_pulled_at, stream_pushed_at, reading_in, IsWorkOf}
 use Rattle.plan_laws.proofs.meaning.Same.{each-same, graphs-same}
 use Rattle.plan_laws.proofs.meaning.Typing.{each-typed, Typed}
 use Rattle.plan_laws.proofs.graph.GraphLaws.{ranks-count}
-use Rattle.query_model.specs.declared.processor_spec.Spec.TheVariants as spec
 use Rattle.plan_laws.proofs.ends.GrownLists.{at-recursion}
 use Rattle.plan_laws.proofs.ends.Pulled.{kept-counted}
 use Rattle.plan_laws.proofs.ends.Pulls.{IsWireOf, all-pull, wire-pulls}
@@ -48,7 +47,7 @@ collect-form : (body : List DraftNode) (rank : ℕ) (nodes : List DraftNode) (la
 collect-form body rank nodes last e count =
     search (arith, length-map, length-append, map-append, get_or_at)
 
-collect-spec : (s : Spec) → spec_form s ≡ unboxed spec.Collect → s ≡ spec.Collect
+collect-spec : (s : Spec) → spec_form s ≡ unboxed collect_node.spec → s ≡ collect_node.spec
 collect-spec s e = grind arith
 
 -- a node of a kind that doesn't grow is an ordinary one
@@ -57,7 +56,7 @@ ordinary z ready u = grind arith
 
 -- A collector has all of its input, and it gathered that.
 pub record HasCollected (p : BoxPicture) (ins : Lists) : Type 0 where
-  pub loaded : p.spec ≡ Some spec.Collect
+  pub loaded : p.spec ≡ Some collect_node.spec
   pub done : (in_stream p ins 0).done ≡ true
   pub gathered : p.work.gathered ≡ ins 0
 
@@ -114,7 +113,7 @@ module _ (files : Files) (nodes : List DraftNode) (boxes : List BoxPicture)
         path
     listed-fed list n i path lt b =
         let part : PartSpec = part_spec (reading_in list) (suc i) path in
-        let kept = box-kept b.node 0 1 (spec.Csv part) b.in_range b.loaded b.inputs b.outputs
+        let kept = box-kept b.node 0 1 (part_source part) b.in_range b.loaded b.inputs b.outputs
         (refl, refl) (omega arith) (omega arith) in
         let gives = part-gives part files 0 1 b.node (box_at boxes b.node)
         (h.done.pulled b.node) (h.done.pushed b.node) kept in
@@ -135,8 +134,8 @@ module _ (files : Files) (nodes : List DraftNode) (boxes : List BoxPicture)
         }
 
     list-kept : (k : ℕ) (list : PartSpec) → k < length nodes
-        → (box_at boxes k).spec ≡ Some (spec.List list) → output_count wires k ≡ 1
-        → GivesIf (sources_of_files files) (spec.List list) []
+        → (box_at boxes k).spec ≡ Some (list_source list) → output_count wires k ≡ 1
+        → GivesIf (sources_of_files files) (list_source list) []
         (out_stream (box_at boxes k) (h.done.pushed k) 0 ∷ [])
     list-kept k list lt loaded one = go (h.grown.lists k list lt loaded)
       where
@@ -146,16 +145,16 @@ module _ (files : Files) (nodes : List DraftNode) (boxes : List BoxPicture)
         gives : input_count wires k ≤ 32
             → (input_count wires k ≡ 0) ⊎ IsGrownList list files (input_count wires k)
             (box_at boxes k) (h.done.pulled k)
-            → GivesIf (sources_of_files files) (spec.List list) []
+            → GivesIf (sources_of_files files) (list_source list) []
             (out_stream (box_at boxes k) (h.done.pushed k) 0 ∷ [])
         gives few grown =
             list-gives list files (input_count wires k) k (box_at boxes k) (h.done.pulled k)
             (h.done.pushed k)
-            (box-kept k (input_count wires k) 1 (spec.List list) in_boxes loaded refl one
+            (box-kept k (input_count wires k) 1 (list_source list) in_boxes loaded refl one
             (rw one at (h.grown.list_ports k list lt loaded)) few (omega arith)) grown
 
         go : (input_count wires k ≡ 0) ⊎ HasListed list files wires boxes k
-            → GivesIf (sources_of_files files) (spec.List list) []
+            → GivesIf (sources_of_files files) (list_source list) []
             (out_stream (box_at boxes k) (h.done.pushed k) 0 ∷ [])
         go (inl none) = gives (omega (arith, none)) (inl none)
         go (inr w) =
@@ -179,8 +178,8 @@ module _ (files : Files) (nodes : List DraftNode) (boxes : List BoxPicture)
             let ins : Lists = h.done.pulled k in
             let outs : Lists = h.done.pushed k in
             subst (λ s. BoxGives s files z.takes z.gives k p ins outs) (sym l.is)
-            (subst (λ m. BoxGives (spec.List l.list) files m z.gives k p ins outs) (sym l.takes)
-            (subst (λ m. BoxGives (spec.List l.list) files 0 m k p ins outs) (sym l.gives)
+            (subst (λ m. BoxGives (list_source l.list) files m z.gives k p ins outs) (sym l.takes)
+            (subst (λ m. BoxGives (list_source l.list) files 0 m k p ins outs) (sym l.gives)
             (list-kept k l.list at.0 (h.specs k z at.0 at.1 ∙ ap (λ s. Some s) l.is)
             (gives-at k z at ∙ l.gives))))
 
@@ -222,16 +221,17 @@ module _ (files : Files) (nodes : List DraftNode) (boxes : List BoxPicture)
         let form : node_form z ≡ node_form (collector rank) =
         sym (get_or-map node_form nodes last (collector rank) (node_form (collector rank)) lt)
         ∙ collect-form body rank nodes last e count in
-        let is : z.spec ≡ spec.Collect = collect-spec z.spec (ap (λ (f : NodeForm). f.spec) form) in
+        let is : z.spec ≡ collect_node.spec =
+        collect-spec z.spec (ap (λ (f : NodeForm). f.spec) form) in
         let there : node_at last z = (lt, get_or_default nodes last z (collector rank) lt) in
         let k = node-kept last z there
         (ordinary z (at-recursion IsReady nodes ready last z there.0 there.1)
         (subst IsUngrown (sym is) tt)) in
         let b : BoxPicture = box_at boxes last in
         let ins : Lists = h.done.pulled last in
-        let loaded : b.spec ≡ Some spec.Collect = k.loaded ∙ ap (λ s. Some s) is in
-        let keeps : KeepsWorked spec.Collect b ins (h.done.pushed last) =
-        worked-where-fit spec.Collect b ins (h.done.pushed last) (λ i n d lt. tt)
+        let loaded : b.spec ≡ Some collect_node.spec = k.loaded ∙ ap (λ s. Some s) is in
+        let keeps : KeepsWorked collect_node.spec b ins (h.done.pushed last) =
+        worked-where-fit collect_node.spec b ins (h.done.pushed last) (λ i n d lt. tt)
         (subst (λ s. KeepsRows s b ins (h.done.pushed last)) loaded k.keeps.rows) in
         record {
           loaded = loaded;

@@ -1,5 +1,5 @@
 -- The rows that the nodes of each kind pulled in a run of a query's plan are the kind's flow.
-use Rattle.plan_laws.proofs.Imports.{Checked, ColumnType, Cond, Database, DraftNode, Grouped, HasCalls, IsPlanOf, IsTold, Kind, NodeForm, NodePort, RowsOfSources, Plain, Row, SelectPlan, Shape, SortKey, SortSpec, Stream, rows_together, body_nodes, collect_node, count_over, filter_pulls, filtered_rows, flow, forms, gather_pulls, groups_tested, if_grouped, if_ordered, if_plain, join_pulls, kind_of, length-map, of_kind, order_of, plan_nodes, plan_pulls, ports_of, pulled_rows, rows_joined, stream_rows, rows_tested, same_kind, selected_rows, shape_of, shape_pulls, sort_pulls, source_rows, source_table, sum_by-append, sum_by-cons, used_table, Bool, IfSome, List, None, Option, [], ap, ap₂, arith, cond, false, length, length-append, map, refl, suc, sym, true, ℕ, ◌++◌, ◌+◌, ◌∙◌, ◌∷◌, ◌≡◌}
+use Rattle.plan_laws.proofs.Imports.{Checked, ColumnType, Cond, Database, DraftNode, Grouped, HasCalls, IsPlanOf, IsTold, Kind, NodeForm, NodePort, RowsOfSources, Plain, Row, SelectPlan, Shape, SortKey, SortSpec, Stream, collector_kind, rows_together, body_nodes, collect_node, count_over, filter_pulls, filtered_rows, flow, forms, gather_pulls, groups_tested, if_grouped, if_ordered, if_plain, join_pulls, kind_of, length-map, of_kind, order_of, plan_nodes, plan_pulls, ports_of, pulled_rows, rows_joined, stream_rows, rows_tested, same_kind, selected_rows, shape_of, shape_pulls, sort_pulls, source_rows, source_table, sum_by-append, sum_by-cons, used_table, Bool, IfSome, List, None, Option, [], ap, ap₂, arith, cond, false, length, length-append, map, refl, suc, sym, true, ℕ, ◌++◌, ◌+◌, ◌∙◌, ◌∷◌, ◌≡◌}
 use Rattle.plan_laws.proofs.meaning.Same.{by-forms, kind-same}
 use Rattle.plan_laws.proofs.meaning.Queries.{groups-selected}
 use Rattle.plan_laws.proofs.meaning.Blocks.{none-of}
@@ -90,7 +90,7 @@ pub record HasFlowed (p : SelectPlan) (parts : RowsOfSources) (nodes : List Draf
     (f : NodePort → Stream) (last : ℕ) : Type 0 where
   pub same : forms nodes ≡ forms (plan_nodes p)
   pub count : length (plan_nodes p) ≡ last + 1
-  pub one_collector : count_over (of_kind kind.Collect) (plan_nodes p) ≡ 1
+  pub one_collector : count_over (of_kind collector_kind) (plan_nodes p) ≡ 1
   pub pulled : (k : Kind) → p.limit ≡ None → IsTold k
       → pulled_rows k 0 (body_nodes p) f ≡ plan_pulls k parts p
 
@@ -101,7 +101,7 @@ module _ (p : SelectPlan) (parts : RowsOfSources) (nodes : List DraftNode) (f : 
 
   -- the collector's rows come to those of the other nodes
   all-pulled : (k : Kind) → pulled_rows k 0 nodes f
-      ≡ pulled_rows k 0 (body_nodes p) f + cond (same_kind kind.Collect k) (length rows) 0
+      ≡ pulled_rows k 0 (body_nodes p) f + cond (same_kind collector_kind k) (length rows) 0
   all-pulled k =
       let body : List DraftNode = body_nodes p in
       let place : 0 + length body ≡ last =
@@ -109,10 +109,10 @@ module _ (p : SelectPlan) (parts : RowsOfSources) (nodes : List DraftNode) (f : 
       let split = pulled-append k f 0 body (collect_node ∷ []) in
       let at = ap (λ n. pulled_rows k n (collect_node ∷ []) f) place in
       let one : length (rows ++ []) ≡ length rows = length-append rows [] ∙ omega arith in
-      let collect = ap (λ n. cond (same_kind kind.Collect k) n 0) one in
+      let collect = ap (λ n. cond (same_kind collector_kind k) n 0) one in
       pulled-same k f 0 nodes (plan_nodes p) h.same ∙ omega (arith, split, at, collect)
 
-  pub collector-pulled : pulled_rows kind.Collect 0 nodes f ≡ length rows
+  pub collector-pulled : pulled_rows collector_kind 0 nodes f ≡ length rows
   collector-pulled = search (arith, sum_by-append, none-pulled, all-pulled)
 
   -- Where there is no LIMIT, each kind pulled its flow of the query of which these are the rows.
@@ -128,7 +128,7 @@ module _ (p : SelectPlan) (parts : RowsOfSources) (nodes : List DraftNode) (f : 
         ≡ cond (same_kind kind.HashJoin k) (rows_joined q.join db (used_table db q.from).rows) 0
         + cond (same_kind kind.Filter k) (rows_tested q.filter (source_rows q db)) 0
         + shape_flow k types made is.chunk_rows chunk_rows q.order (filtered_rows q db) q.shape
-        + cond (same_kind kind.Collect k) (length rows) 0
+        + cond (same_kind collector_kind k) (length rows) 0
     told-pulled k told = search (arith, all-pulled, shape-told, tests)
 
     pub flow-pulled : (k : Kind)

@@ -1,7 +1,6 @@
 -- A graph of lawful boxes grows by its lists of parts alone, each by the sources of its parts.
 use Rattle.std.proofs.lemmas.Grind.{common_steps}
-use Rattle.plan_laws.proofs.Imports.{Bool, List, None, Option, Some, [], ap, ap₂, arith, cond, count_by, count_by-none, count_by-once, false, false_from_ne_true, flat_map, get_or, inl, inr, is_some, length, map, refl, subst, suc, sum_by, sym, true, ℕ, ◌++◌, ◌+◌, ◌<◌, ◌==◌, ◌∙◌, ◌∷◌, ◌≡◌, ◌⊎◌, All, All-from_recursion, AllByRecursion, BoxPicture, Contains, Contains-append_right, DraftNode, Files, GrowthForm, PartSpec, Spec, Wire, both_ways, box_at, cases_lt, get_or_default, get_or_past, input_count, no_wire, output_count, part_spec, paths_in, sum_by-append, sum_by-cons, unboxed, wire_at, grows-lawfully, AreAllBorn, Birth, HasForm, IsBirth, all_places, births_of, born_wires, form_at, growth_list, growths_of, kept_growths, new_wires, ArePortsOf, IsListGrowth, MayGrow, SpecForm, list_growth, listed_edges, listed_part, listed_parts, grown_inputs, is_me, Edge, Reserve, eqb-true, All-contains_itself, All-filter, filter_passes, length-map, nil_from_length, HasGrownByLists, HasListed, IsListedNode, IsUngrown, reading_in, GrowsLawfully}
-use Rattle.query_model.specs.declared.processor_spec.Spec.TheVariants as spec
+use Rattle.plan_laws.proofs.Imports.{Bool, List, None, Option, Some, [], ap, ap₂, arith, cond, contract_of, count_by, count_by-none, count_by-once, false, false_from_ne_true, flat_map, get_or, grew-list, inl, inr, is_some, length, list_source, map, part_source, refl, subst, suc, sum_by, sym, true, ℕ, ◌++◌, ◌+◌, ◌<◌, ◌==◌, ◌∙◌, ◌∷◌, ◌≡◌, ◌⊎◌, All, All-from_recursion, AllByRecursion, BoxPicture, Contains, Contains-append_right, DraftNode, Files, GrowthForm, PartSpec, Spec, Wire, both_ways, box_at, cases_lt, get_or_default, get_or_past, input_count, no_wire, output_count, part_spec, paths_in, sum_by-append, sum_by-cons, unboxed, wire_at, grows-lawfully, AreAllBorn, Birth, HasForm, IsBirth, all_places, births_of, born_wires, form_at, growth_list, growths_of, kept_growths, new_wires, ArePortsOf, IsListGrowth, MayGrow, SpecForm, list_growth, listed_edges, listed_part, listed_parts, grown_inputs, is_me, Edge, Reserve, eqb-true, All-contains_itself, All-filter, filter_passes, length-map, nil_from_length, HasGrownByLists, HasListed, IsListedNode, IsUngrown, reading_in, GrowsLawfully}
 
 -- ---- the wires of a list's growth
 
@@ -141,20 +140,21 @@ grown-length i (path ∷ paths) = search (arith, sum_by-cons, grown-length (i + 
 
 pub part-form : (list : PartSpec) (i : ℕ) (paths : List (List ℕ)) (k : ℕ) (path : List ℕ)
     → k < length paths → get_or paths k path ≡ path
-    → form_at (listed_parts list i paths) k ≡ unboxed (spec.Csv (listed_part list (i + k) path))
+    → form_at (listed_parts list i paths) k ≡ unboxed (part_source (listed_part list (i + k) path))
 part-form list i (p ∷ paths) (suc k) path lt is =
     grind (arith, part-form list (i + 1) paths k path (omega (arith, lt)) is)
 part-form list i paths k path lt is = grind arith
 
-pub form-csv : (o : Option Spec) (f : SpecForm) (part : PartSpec) → f ≡ unboxed (spec.Csv part)
-    → HasForm o f → o ≡ Some (spec.Csv part)
+pub form-csv : (o : Option Spec) (f : SpecForm) (part : PartSpec) → f ≡ unboxed (part_source part)
+    → HasForm o f → o ≡ Some (part_source part)
 form-csv o f part e h = grind arith
 
 may-none : (s : Spec) (files : Option Files) (o : Option GrowthForm) → IsUngrown s
     → MayGrow (Some s) files o → o ≡ None
 may-none s files None u m = refl
-may-none (spec.List list) files (Some g) u m = absurd u
-may-none s files (Some g) u m = absurd m
+may-none s files (Some g) u m =
+    let grew = grew-list (Some s) files g m in
+    absurd (subst (λ o. (contract_of o).traits.ungrown) grew.is u)
 
 -- a loaded box is one of the list
 pub born-within : (boxes : List BoxPicture) (n : ℕ) → is_some (box_at boxes n).spec ≡ true
@@ -201,9 +201,7 @@ module _ (files : Files) (nodes : List DraftNode) (wires : List Wire) (reserves 
     where
       one : (b : Birth) → IsBirth reserves before after b → (o : Option Spec)
           → MayGrow o (box_at after b.expander).files (Some b.growth) → IsListBirth b
-      one b w (Some (spec.List list)) m = grind (arith, parts-length)
-      one b w None m = absurd m
-      one b w (Some s) m = absurd m
+      one b w o m = grind (arith, parts-length, grew-list o _ b.growth m)
 
       all-map : (bs : List Birth) → AllByRecursion (IsBirth reserves before after) bs
           → AllByRecursion IsListBirth bs
@@ -242,16 +240,16 @@ module _ (files : Files) (nodes : List DraftNode) (wires : List Wire) (reserves 
     pub may : IsListGrowth list (box_at after n).files birth.growth
 
   list-case : (n : ℕ) (list : PartSpec) → n < length after
-      → (box_at after n).spec ≡ Some (spec.List list)
+      → (box_at after n).spec ≡ Some (list_source list)
       → ((births_of n births ≡ []) × ((box_at after n).growth ≡ None)) ⊎ ListCase list n
   list-case n list lt is =
       go (box_at after n).growth refl
       (growths n lt ∙ ap (λ o. cond (is_some o) (growth_list (box_at after n).growth) []) is)
-      (may-grow n (spec.List list) lt is)
+      (may-grow n (list_source list) lt is)
     where
       go : (q : Option GrowthForm) → (box_at after n).growth ≡ q
           → growths_of n births ≡ growth_list q
-          → MayGrow (Some (spec.List list)) (box_at after n).files q
+          → MayGrow (Some (list_source list)) (box_at after n).files q
           → ((births_of n births ≡ []) × ((box_at after n).growth ≡ None)) ⊎ ListCase list n
       go None e gs m = inl (map-none (births_of n births) gs, e)
       go (Some h) e gs m = grind (arith, map-one (births_of n births) h gs)
@@ -279,13 +277,13 @@ module _ (files : Files) (nodes : List DraftNode) (wires : List Wire) (reserves 
       let behind = g.behind b.expander q (w.reserved k within) in
       let part : PartSpec = part_spec (reading_in list) (suc k) path in
       let numbered : 0 + k + 1 ≡ suc k = omega arith in
-      let form : form_at b.growth.specs k ≡ unboxed (spec.Csv part) =
+      let form : form_at b.growth.specs k ≡ unboxed (part_source part) =
       grind (arith, part-form list 0 paths k path lt is) in
       let loaded = form-csv (box_at after q).spec (form_at b.growth.specs k) part form
       (w.born k within) in
       let past = behind.0 in
       let none_in = g.inputs_within q past in
-      let fed_zero = unfed q (no-growth q (spec.Csv part) behind.1 loaded tt) in
+      let fed_zero = unfed q (no-growth q (part_source part) behind.1 loaded tt) in
       let listed = at-recursion IsListBirth births list-births f.0.0 b f.0.1 f.0.2 in
       let there = contains-flat (λ (d : Birth). d.places) births f.0.0 b f.0.1 f.0.2 q
       (k, within, get_or_default b.places k q 0 within) in
@@ -317,8 +315,8 @@ module _ (files : Files) (nodes : List DraftNode) (wires : List Wire) (reserves 
   in-after n lt = let few = g.few in omega (arith, lt, few)
 
   list-ports : (n : ℕ) (list : PartSpec) → n < length nodes
-      → (box_at after n).spec ≡ Some (spec.List list)
-      → ArePortsOf (Some (spec.List list)) (box_at after n).growth (input_count all_wires n)
+      → (box_at after n).spec ≡ Some (list_source list)
+      → ArePortsOf (Some (list_source list)) (box_at after n).growth (input_count all_wires n)
       (output_count all_wires n)
   list-ports n list lt is =
       let ports = g.lists_unfed n list lt is in
@@ -348,7 +346,7 @@ module _ (files : Files) (nodes : List DraftNode) (wires : List Wire) (reserves 
   }
     where
       go : (n : ℕ) (list : PartSpec) → n < length nodes
-          → (box_at after n).spec ≡ Some (spec.List list)
+          → (box_at after n).spec ≡ Some (list_source list)
           → ((births_of n births ≡ []) × ((box_at after n).growth ≡ None)) ⊎ ListCase list n
           → (input_count all_wires n ≡ 0) ⊎ HasListed list files all_wires after n
       go n list lt is (inl none) = inl (unfed n none.0 ∙ (g.lists_unfed n list lt is).0)
@@ -359,6 +357,6 @@ module _ (files : Files) (nodes : List DraftNode) (wires : List Wire) (reserves 
             arith,
             listed-node n list c f w,
             fed-length n list c (g.lists_unfed n list lt is).0 w,
-            g.told n (spec.List list) (in-after n lt) is tt,
+            g.told n (list_source list) (in-after n lt) is tt,
             c.may,
           )

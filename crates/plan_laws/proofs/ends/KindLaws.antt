@@ -1,5 +1,5 @@
 -- What a kind keeps is what it gives, a kind at a time.
-use Rattle.plan_laws.proofs.Imports.{Bool, KeepsWorked, List, Some, [], ap, append_assoc, arith, false, filter, get_or, inl, inr, length, map, refl, subst, suc, sym, true, worked-where-fit, zero, ℕ, ◌++◌, ◌+◌, ◌<◌, ◌∙◌, ◌∷◌, ◌≡◌, ◌≤◌, ◌⊎◌, All, All-head, All-nil, All-tail, AllByRecursion, AllFit, Any, BoxPicture, ColumnType, Cond, Expr, Files, FitFrom, FitsInput, Gives, GivesFront, GivesSource, GivesThrough, HasReadEnough, IsItem, IsPulled, IsTypedCond, Keeps, KeepsRows, Lists, MakesType, MakesTypes, NodePort, PartSpec, Row, Span, Spec, Table, WorkState, and_parts, append-nil, both_ways, cases_eq, cases_lt, chunk_rows, cond_both, false_from_ne_true, flat_map-append, get_or-map, holds, item_row, kept_output, kept_outputs, length-map, limited, no_table, not-true, not_from_false, ports_of, pulled_types, recursion_from_All, type_of, unworked_at, BoxGives, part_of, sources_of_files, chunk_types, in_stream, out_stream, KeepsContract, KindGives, filter-append, map-append, IsWorkOf, cond, length-append, nil_from_length, ◌==◌, Types}
+use Rattle.plan_laws.proofs.Imports.{Bool, KeepsWorked, List, Some, [], ap, append_assoc, arith, false, filter, get_or, inl, inr, length, map, refl, subst, suc, sym, true, worked-where-fit, zero, ℕ, ◌++◌, ◌+◌, ◌<◌, ◌∷◌, ◌≡◌, ◌≤◌, ◌⊎◌, All, All-head, All-nil, All-tail, AllByRecursion, AllFit, Any, BoxPicture, ColumnType, Cond, Expr, Files, FitFrom, FitsInput, Gives, GivesFront, GivesSource, GivesThrough, HasReadEnough, IsItem, IsPulled, IsTypedCond, Keeps, KeepsRows, Lists, MakesType, MakesTypes, NodePort, PartSpec, Row, Span, Spec, Table, WorkState, and_parts, append-nil, both_ways, cases_eq, cases_lt, chunk_rows, cond_both, false_from_ne_true, flat_map-append, get_or-map, holds, item_row, kept_output, kept_outputs, length-map, limited, no_table, not-true, not_from_false, ports_of, pulled_types, recursion_from_All, type_of, unworked_at, BoxGives, part_of, sources_of_files, chunk_types, in_stream, out_stream, KeepsContract, KindGives, filter-append, map-append, IsWorkOf, length-append, nil_from_length, Types}
 use Rattle.plan_laws.proofs.meaning.KindLaws.{limited-extends, Extends}
 use Rattle.plan_laws.proofs.meaning.Fronts.{no-rest}
 use Rattle.plan_laws.proofs.meaning.PlanTypes.{OneType, passes-type}
@@ -273,6 +273,4 @@ collector-done p ins outs e k none = search (arith, not_from_false, false_from_n
 -- and what it gathered are the chunks that it pulled
 pub collector-gathered : (p : BoxPicture) (ins outs : Lists) → IsWorkOf (Some spec.Collect) p.work
     → KeepsWorked spec.Collect p ins outs → p.work.gathered ≡ ins 0
-collector-gathered p ins outs idle m =
-    m.rows ∙ sym (m.ins_are 0 ∙ ap (λ n. m.worked 0 ++ cond (0 == n) p.work.unworked [])
-    (ap (λ w. w.source) idle))
+collector-gathered p ins outs idle m = search (arith)

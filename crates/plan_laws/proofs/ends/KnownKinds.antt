@@ -1,9 +1,8 @@
 -- Plans have nodes of known kinds alone.
-use Rattle.plan_laws.proofs.Imports.{IfSome, List, None, Option, Some, [], arith, refl, subst, suc, sym, zero, ℕ, ◌<◌, ◌∷◌, ◌≡◌, AllByRecursion, DraftNode, IsPlan, IsSourceSpec, JoinsSources, NodeForm, PartSpec, PlanJoin, PlanShape, SelectPlan, SortSpec, Span, Spec, every-append, every-front, every-weaker, forms, body_nodes, collect_node, gather_nodes, lane_nodes, lane_steps, limit_nodes, node_form, plan_nodes, read_steps, select_steps, shape_nodes, sort_nodes, source_nodes, ⊤, IsReady, IsStep, IsUngrown, KnownPorts, SourceHas, IsKnown, nodes_behind, moved_node, joint_node}
+use Rattle.plan_laws.proofs.Imports.{FileHas, FileRead, IfSome, List, None, Option, Some, [], arith, file_read, refl, resize_node, subst, suc, sym, zero, ℕ, ◌<◌, ◌∷◌, ◌≡◌, AllByRecursion, DraftNode, IsPlan, IsSourceSpec, JoinsSources, NodeForm, PartSpec, PlanJoin, PlanShape, SelectPlan, SortSpec, Span, Spec, every-append, every-front, every-weaker, forms, body_nodes, collect_node, gather_nodes, lane_nodes, lane_steps, limit_nodes, node_form, plan_nodes, read_steps, select_steps, shape_nodes, sort_nodes, source_nodes, ⊤, IsReady, IsStep, IsUngrown, KnownPorts, SourceHas, IsKnown, nodes_behind, moved_node}
 use Rattle.plan_laws.proofs.meaning.Same.{by-forms, same-spec}
 use Rattle.plan_laws.proofs.meaning.Frames.{every-moved}
 use Rattle.plan_laws.proofs.KindTable.{known-gives, known-ports}
-use Rattle.query_model.specs.declared.processor_spec.Spec.TheVariants as spec
 
 -- ---- known kinds
 
@@ -16,8 +15,7 @@ known-ready P L n h = go n.spec refl h.0
         grind (arith, known-ports n.spec n.takes n.gives u ports, known-gives n.spec u)
 
     go : (s : Spec) → n.spec ≡ s → KnownPorts n.spec n.takes n.gives → IsReady n
-    go (spec.List list) e ports = grind arith
-    go s e ports = ordinary (subst IsUngrown (sym e) tt) ports
+    go s e ports = grind (arith, ordinary, e)
 
 -- What is true of each node of a rank and with known ports that is no source's, and stays true
 -- behind other ends, is true of a plan's nodes where it is of its sources.
@@ -55,7 +53,7 @@ module _ (Q : DraftNode → Type 0)
 
   -- the resizes into the lanes
   abbrev Resizes : SelectPlan → Type 0
-  Resizes p = (rank takes : ℕ) → 0 < rank → Q (joint_node spec.Resize rank takes p.lanes)
+  Resizes p = (rank takes : ℕ) → 0 < rank → Q (resize_node rank takes p.lanes)
 
   -- the steps behind so many open ends
   pub select-have : (ends : ℕ) (p : SelectPlan) → Resizes p
@@ -116,7 +114,7 @@ module _ (P L : PartSpec → Type 0) where
   joined-known (Some j) are more = sources-known 0 j.sources are more
 
   resizes-known : (p : SelectPlan) → 0 < p.lanes → (rank takes : ℕ) → 0 < rank
-      → IsStep P L (joint_node spec.Resize rank takes p.lanes)
+      → IsStep P L (resize_node rank takes p.lanes)
   resizes-known p some rank takes r = grind arith
 
   plan-known : (p : SelectPlan) → IsPlan p → BothHave p → AllByRecursion (IsStep P L) (plan_nodes p)
@@ -145,9 +143,10 @@ module _ (P L : PartSpec → Type 0) where
 -- nothing is asked of parts
 pub any-parts : (specs : List Spec) → AllByRecursion (SourceHas (λ part. ⊤) (λ list. ⊤)) specs
 any-parts [] = tt
-any-parts (spec.Csv part ∷ specs) = (tt, any-parts specs)
-any-parts (spec.List list ∷ specs) = (tt, any-parts specs)
-any-parts (s ∷ specs) = (tt, any-parts specs)
+any-parts (s ∷ specs) = (any-file (file_read (Some s)), any-parts specs)
+  where
+    any-file : (r : FileRead) → FileHas (λ part. ⊤) (λ list. ⊤) r
+    any-file r = grind arith
 
 pub any-joined : (j : Option PlanJoin)
     → IfSome j (λ (j : PlanJoin). AllByRecursion (SourceHas (λ part. ⊤) (λ list. ⊤)) j.sources)

@@ -5,7 +5,6 @@ use Rattle.plan_laws.proofs.graph.Fitting.{FitsBlock, block-append, fits, joint-
 use Rattle.plan_laws.proofs.meaning.Same.{after-same, fit-same}
 use Rattle.plan_laws.proofs.graph.GraphLaws.{lists-are-graphs}
 use Rattle.plan_laws.proofs.meaning.Typing.{typed-then}
-use Rattle.query_model.specs.declared.processor_spec.Spec.TheVariants as spec
 use Rattle.plan_laws.proofs.ends.Answers.{ListRun, list-run}
 use Rattle.plan_laws.proofs.ends.KnownKinds.{known-nodes}
 use Rattle.plan_laws.proofs.ends.LaidPlans.{Laid, no_ends, one_end}
@@ -31,7 +30,7 @@ module _ (files : Files) (body : List DraftNode) (rank end : ℕ) (types : Types
 
   steps-fit : FitsBlock steps [] []
   steps-fit = block-append laid.fit
-      (joint-fit spec.Collect rank 1 0 (end ∷ []) refl
+      (joint-fit (collector rank).spec rank 1 0 (end ∷ []) refl
       (All-cons (λ r. r < rank) end [] lower (All-nil (λ r. r < rank))) (omega arith) (omega arith))
 
   -- copies of the nodes are a graph

@@ -1,8 +1,7 @@
 -- The kinds of nodes.
-use Rattle.plan_laws.proofs.Imports.{arith, List, [], ap, ap₂, cond, count_by, map, refl, replicate, suc, ℕ, ◌++◌, ◌∷◌, ◌≡◌, reserves_from, PlanReserve, DraftNode, Kind, NodeForm, count_over, forms, kind_of, of_kind, same_kind}
+use Rattle.plan_laws.proofs.Imports.{arith, List, [], ap, ap₂, cond, count_by, map, refl, replicate, suc, ℕ, ◌++◌, ◌∷◌, ◌≡◌, reserves_from, PlanReserve, DraftNode, Kind, NodeForm, count_over, forms, grown_kind, kind_of, of_kind, row_of, same_kind}
 use Rattle.plan_laws.proofs.meaning.Same.{by-forms, kind-same}
 use Rattle.plan_laws.proofs.graph.Ports.{sum_by-map}
-use Rattle.query_model.specs.declared.processor_spec.Kind.TheVariants as kind
 
 abbrev kinds : List DraftNode → List Kind
 kinds nodes = map kind_of (map (λ (n : DraftNode). n.spec) nodes)
@@ -24,8 +23,8 @@ pub reserves-same : (xs ys : List DraftNode) → forms xs ≡ forms ys → (n : 
     → reserves_from n xs ≡ reserves_from n ys
 reserves-same xs ys e = by-forms (λ xs ys. (n : ℕ) → reserves_from n xs ≡ reserves_from n ys)
     (λ n. refl)
-    (λ x y xs ys same rest n. ap₂ (λ k l. cond (same_kind k kind.List) (kept n) [] ++ l)
+    (λ x y xs ys same rest n. ap₂ (λ k l. cond (row_of k).reads_list (kept n) [] ++ l)
     (kind-same x.spec y.spec (ap (λ (z : NodeForm). z.spec) same)) (rest (suc n))) xs ys e
   where
     kept : ℕ → List PlanReserve
-    kept n = record { node = n; kinds = replicate 32 kind.Csv; edges = 32 } ∷ []
+    kept n = record { node = n; kinds = replicate 32 grown_kind; edges = 32 } ∷ []

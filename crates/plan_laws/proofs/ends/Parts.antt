@@ -1,8 +1,7 @@
 -- The parts that the sources of a used table read, and the lists that name them.
 use Rattle.std.proofs.lemmas.Grind.{common_steps}
-use Rattle.plan_laws.proofs.Imports.{Bool, IfSome, List, None, Option, Some, [], ap, arith, flat_map, refl, slice_get, suc, sym, true, ℕ, ◌++◌, ◌+◌, ◌∙◌, ◌∷◌, ◌≡◌, ◌⊎◌, All, All-append, All-cons, All-nil, AllByRecursion, CheckedJoin, Cond, Contains, Contains-append_left, Contains-append_right, Declared, Expr, Files, HasEnoughRows, IsCut, IsListUsed, IsValidPart, IsValidUsed, ListFile, Numbers, SourceRows, PartSpec, RowsOfSources, PartsDecl, Paths, PlanJoin, SourceReading, Row, SelectPlan, Span, Spec, TableDecl, TableUse, UsedPart, all_valid, and_parts, both_ways, column_types, declared_sources, file_bytes, join_of, join_use, join_valid, numbered_parts, part_paths, part_sources, part_spec, parts_declared, parts_used, path_sources, paths_in, plain, plan_valid, read_rows, read_valid, table_reading, rows_where, shape_rows, sources_rows, table_sources, IsListDeclared, IsValidList, SourceHas, is_valid_list, part_of, sources_of_files, used_part}
+use Rattle.plan_laws.proofs.Imports.{Bool, IfSome, List, None, Option, Some, [], ap, arith, flat_map, part_source, refl, slice_get, suc, sym, true, ℕ, ◌++◌, ◌+◌, ◌∙◌, ◌∷◌, ◌≡◌, ◌⊎◌, All, All-append, All-cons, All-nil, AllByRecursion, CheckedJoin, Cond, Contains, Contains-append_left, Contains-append_right, Declared, Expr, Files, HasEnoughRows, IsCut, IsListUsed, IsValidPart, IsValidUsed, ListFile, Numbers, SourceRows, PartSpec, RowsOfSources, PartsDecl, Paths, PlanJoin, SourceReading, Row, SelectPlan, Span, Spec, TableDecl, TableUse, UsedPart, all_valid, and_parts, both_ways, column_types, declared_sources, file_bytes, join_of, join_use, join_valid, numbered_parts, part_paths, part_sources, part_spec, parts_declared, parts_used, path_sources, paths_in, plain, plan_valid, read_rows, read_valid, table_reading, rows_where, shape_rows, sources_rows, table_sources, IsListDeclared, IsValidList, SourceHas, is_valid_list, part_of, sources_of_files, used_part}
 use Rattle.plan_laws.proofs.meaning.KindLaws.{enough-some}
-use Rattle.query_model.specs.declared.processor_spec.Spec.TheVariants as spec
 
 -- ---- the parts that are read
 
@@ -93,8 +92,8 @@ part-valid : (r : SourceReading) (k : ℕ) (path : List ℕ) (files : Files)
 part-valid r k path files e = grind (arith, both_ways)
 
 paths-valid : (files : Files) (parts : RowsOfSources)
-    → ((part : PartSpec) → parts (spec.Csv part) ≡ part_of files part) → (r : SourceReading) (k : ℕ)
-    (paths : List (List ℕ)) → all_valid parts (path_sources r k paths) ≡ true
+    → ((part : PartSpec) → parts (part_source part) ≡ part_of files part) → (r : SourceReading)
+    (k : ℕ) (paths : List (List ℕ)) → all_valid parts (path_sources r k paths) ≡ true
     → All (IsValidUsed r.header files) (numbered_parts r.table r.types k paths)
 paths-valid files parts same r k [] e = All-nil (IsValidUsed r.header files)
 paths-valid files parts same r k (path ∷ paths) e =

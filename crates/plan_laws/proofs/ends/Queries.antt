@@ -1,6 +1,6 @@
 -- At the end of a run of a query's plan the collector has an answer of the query, and its boxes
 -- pulled their flow.
-use Rattle.plan_laws.proofs.Imports.{Bool, IfSome, List, None, Option, Some, [], ap, arith, cond, flat_map, length, refl, slice_get, subst, suc, sym, true, ℕ, ◌+◌, ◌<◌, ◌∙◌, ◌∷◌, ◌≡◌, ◌⊎◌, All, AllByRecursion, body_nodes, AreKeyPairs, BoxPicture, Checked, CheckedJoin, ColumnType, Database, Declared, DraftNode, Files, HasCalls, IsAnswer, IsCut, IsPlanOf, IsSmall, IsSourceSpec, IsTypedFilter, IsTypedShape, JoinsSources, Kind, ListFile, NodePort, Numbers, PartSpec, RowsOfSources, PartsDecl, Paths, SourceReading, SelectPlan, SortKey, Spec, Stream, Table, TableDecl, TableUse, append-nil, chunk_rows, count_over, database, declared_sources, declared_table, flow, forms, get_or-map, get_or_past, join_of, join_pulls, join_spec, joined_table, length-map, of_kind, order_of, output_rows, part_paths, part_rows, part_sources, part_spec, path_sources, plan_keys, plan_nodes, plan_rows, plan_valid, pulled_rows, read_rows, table_reading, rows_joined, same_kind, select_plan, shape_of, slice_get_cases, source_types, sources_rows, sum_by-cons, table_sources, types_declared, used_table, used_types, HasEnded, part_of, sources_of_files, stream_pulled_at, PlanAnswers, shape_types, query_boxes}
+use Rattle.plan_laws.proofs.Imports.{Bool, IfSome, List, None, Option, Some, [], ap, arith, collector_kind, cond, flat_map, length, list_source, part_source, refl, slice_get, subst, suc, sym, true, ℕ, ◌+◌, ◌<◌, ◌∙◌, ◌∷◌, ◌≡◌, ◌⊎◌, All, AllByRecursion, body_nodes, AreKeyPairs, BoxPicture, Checked, CheckedJoin, ColumnType, Database, Declared, DraftNode, Files, HasCalls, IsAnswer, IsCut, IsPlanOf, IsSmall, IsSourceSpec, IsTypedFilter, IsTypedShape, JoinsSources, Kind, ListFile, NodePort, Numbers, PartSpec, RowsOfSources, PartsDecl, Paths, SourceReading, SelectPlan, SortKey, Spec, Stream, Table, TableDecl, TableUse, append-nil, chunk_rows, count_over, database, declared_sources, declared_table, flow, forms, get_or-map, get_or_past, join_of, join_pulls, join_spec, joined_table, length-map, of_kind, order_of, output_rows, part_paths, part_rows, part_sources, part_spec, path_sources, plan_keys, plan_nodes, plan_rows, plan_valid, pulled_rows, read_rows, table_reading, rows_joined, same_kind, select_plan, shape_of, slice_get_cases, source_types, sources_rows, sum_by-cons, table_sources, types_declared, used_table, used_types, HasEnded, part_of, sources_of_files, stream_pulled_at, PlanAnswers, shape_types, query_boxes}
 use Rattle.plan_laws.proofs.meaning.Plans.{PlanMade, plan-block}
 use Rattle.plan_laws.proofs.meaning.Fitting.{body-level}
 use Rattle.plan_laws.proofs.meaning.PlanGraphs.{plan-graph}
@@ -9,7 +9,6 @@ use Rattle.plan_laws.proofs.meaning.BoxCounts.{boxes_for, plan-needs}
 use Rattle.plan_laws.proofs.meaning.Blocks.{none-of}
 use Rattle.plan_laws.proofs.meaning.Queries.{query-answers, shape-selects}
 use Rattle.query_model.specs.declared.processor_spec.Kind.TheVariants as kind
-use Rattle.query_model.specs.declared.processor_spec.Spec.TheVariants as spec
 use Rattle.plan_laws.proofs.ends.Answers.{ListRun}
 use Rattle.plan_laws.proofs.ends.Columns.{IsTypedSelect}
 use Rattle.plan_laws.proofs.ends.Flows.{HasFlowed, collector-pulled, flow-pulled}
@@ -17,6 +16,7 @@ use Rattle.plan_laws.proofs.ends.LaidEnds.{laid-ended}
 use Rattle.plan_laws.proofs.ends.LaidPlans.{IsQueryPlan, made_types, select-laid}
 use Rattle.plan_laws.proofs.ends.ShapeTypes.{has-calls}
 use Rattle.plan_laws.proofs.ends.TypedPlans.{FitsOrdering, IsTypedJoin, read_types}
+use Rattle.query_model.specs.declared.processor_spec.Spec.TheVariants as spec
 
 -- ---- tables
 
@@ -36,7 +36,7 @@ pub types-used : (header : Bool) (files : Files) (tables : List TableDecl) (u : 
 types-used header files tables u = grind (arith, table-at)
 
 module _ (files : Files) (parts : RowsOfSources)
-    (same : (part : PartSpec) → parts (spec.Csv part) ≡ part_of files part) where
+    (same : (part : PartSpec) → parts (part_source part) ≡ part_of files part) where
   paths-rows : (r : SourceReading) (k : ℕ) (paths : List (List ℕ))
       → sources_rows parts (path_sources r k paths)
       ≡ flat_map (part_rows r.header r.types files) paths
@@ -66,14 +66,14 @@ rows-used header files tables rows (Numbers n) = append-nil _
 -- ---- sources
 
 paths-sources : (P : Spec → Type 0) (r : SourceReading)
-    → ((k : ℕ) (path : List ℕ) → P (spec.Csv (part_spec r k path)))
+    → ((k : ℕ) (path : List ℕ) → P (part_source (part_spec r k path)))
     → (k : ℕ) (paths : List (List ℕ)) → AllByRecursion P (path_sources r k paths)
 paths-sources P r h k [] = tt
 paths-sources P r h k (path ∷ paths) = (h k path, paths-sources P r h (suc k) paths)
 
 -- what holds of a source of parts, or of a list of them
 abbrev OfBoth : (Spec → Type 0) → PartSpec → Type 0
-OfBoth P part = P (spec.Csv part) × P (spec.List part)
+OfBoth P part = P (part_source part) × P (list_source part)
 
 -- what holds of each source of a used table
 pub each-source : (P : Spec → Type 0) (tables : List TableDecl) (header : Bool) (rows : ℕ)
@@ -139,7 +139,7 @@ module _ (q : Checked) (tables : List TableDecl) (lanes rows : ℕ) (header : Bo
 
 -- nothing that is kept for a list is a collector
 none-kept : (nodes : List DraftNode)
-    → count_over (boxes_for kind.Collect) nodes ≡ count_over (of_kind kind.Collect) nodes
+    → count_over (boxes_for collector_kind) nodes ≡ count_over (of_kind collector_kind) nodes
 none-kept [] = refl
 none-kept (z ∷ nodes) = grind (arith, sum_by-cons, boxes_for, none-of, none-kept nodes)
 
@@ -217,7 +217,7 @@ pub record QueryAnswered (q : Checked) (header : Bool) (files : Files) (tables :
   pub valid : (plan_valid (sources_of_files files) plan ≡ true)
       ⊎ IsCut (sources_of_files files) plan
   pub run : ListRun files (plan_nodes plan) nodes boxes h last
-  pub collected : pulled_rows kind.Collect 0 nodes (stream_pulled_at boxes h.done.pulled)
+  pub collected : pulled_rows collector_kind 0 nodes (stream_pulled_at boxes h.done.pulled)
       ≡ length (chunk_rows (h.done.pulled last 0))
   pub pulled : q.limit ≡ None → (k : Kind) → 0 < query_boxes q tables lanes k
       → IfSome (flow k q (database header files tables) (chunk_rows (h.done.pulled last 0)))

@@ -1,10 +1,9 @@
 -- A union of two plans: the second behind the end of the first, and then one resize.
-use Rattle.plan_laws.proofs.Imports.{All-cons, All-nil, DraftNode, Flow, IsPermutation, IsSmall, List, RowsOfSources, SelectPlan, Types, [], and_parts, ap₂, append-nil, arith, body_nodes, joint_node, moved_nodes, refl, true, ℕ, ◌++◌, ◌+◌, ◌<◌, ◌∙◌, ◌∷◌, ◌≡◌, ap, length, BoxPicture, Files, HasEnded, IsDraftGraph, collector, forms, sources_of_files}
+use Rattle.plan_laws.proofs.Imports.{All-cons, All-nil, DraftNode, Flow, IsPermutation, IsSmall, List, RowsOfSources, SelectPlan, Types, [], and_parts, ap₂, append-nil, arith, body_nodes, moved_nodes, refl, resize_node, true, ℕ, ◌++◌, ◌+◌, ◌<◌, ◌∙◌, ◌∷◌, ◌≡◌, ap, length, BoxPicture, Files, HasEnded, IsDraftGraph, collector, forms, sources_of_files}
 use Rattle.plan_laws.proofs.meaning.Blocks.{Alone, Both, Form, form-block, block-so}
 use Rattle.plan_laws.proofs.meaning.Plans.{PlanMade}
 use Rattle.plan_laws.proofs.meaning.Fitting.{body-level}
 use Rattle.plan_laws.proofs.graph.Fitting.{joint-fit}
-use Rattle.query_model.specs.declared.processor_spec.Spec.TheVariants as spec
 use Rattle.plan_laws.proofs.ends.LaidEnds.{LaidEnded, laid-ended}
 use Rattle.plan_laws.proofs.ends.LaidPlans.{IsQueryPlan, Laid, ends_behind, laid-behind, laid-then, made_types, no_ends, one_end, raised_ends, select-laid}
 use Rattle.plan_laws.proofs.ends.TypedPlans.{joint-typed}
@@ -13,7 +12,7 @@ use Rattle.plan_laws.proofs.ends.ResizeLaws.{resize-type}
 -- the nodes of both, the second with ranks above the first's, and the resize of their ends
 abbrev pub united_nodes : (first second : List DraftNode) (above rank : ℕ) → List DraftNode
 united_nodes first second above rank =
-    first ++ (moved_nodes 1 above second ++ joint_node spec.Resize rank 2 1 ∷ [])
+    first ++ (moved_nodes 1 above second ++ resize_node rank 2 1 ∷ [])
 
 -- The rows of two flows in any order, which are certain where both are.
 pub record UnionMade (P Q : Flow → Type 0) (flow : Flow) : Type 0 where
@@ -42,14 +41,14 @@ module _ (P Q : Flow → Type 0) where
       (one_end rank types (UnionMade P Q))
   united-laid {parts} {first} {second} {a} {b} {types} above rank low less f g =
       let ends : List ℕ = a ∷ (above + b) ∷ [] in
-      let resize : Laid parts (joint_node spec.Resize rank 2 1 ∷ [])
+      let resize : Laid parts (resize_node rank 2 1 ∷ [])
       (ends_behind (one_end a types P) (raised_ends above (one_end b types Q)))
       (one_end rank types (UnionMade P Q)) = record {
         fit = grind (arith, joint-fit, All-cons, All-nil);
-        typed = joint-typed spec.Resize rank 2 1 types types (resize-type 2 types);
+        typed = joint-typed (resize_node rank 2 1).spec rank 2 1 types types (resize-type 2 types);
         known = grind arith;
         makes = block-so two-flows (λ l h. h) (λ k. refl)
-            (form-block spec.Resize rank 2 (λ (p : Flow × Flow). p.0 ∷ p.1 ∷ [])
+            (form-block (resize_node rank 2 1).spec rank 2 (λ (p : Flow × Flow). p.0 ∷ p.1 ∷ [])
             (λ p. P p.0 × Q p.1) (UnionMade P Q) (λ k. 0) (λ u. tt) (λ p. refl)
             (λ p out h makes. grind (arith, append-nil, and_parts, h))
             (λ k p u. absurd u));

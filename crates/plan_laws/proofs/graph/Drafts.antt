@@ -1,7 +1,7 @@
 -- A list of nodes, each of which takes open ends of lower ranks, makes a graph where no end is left
 -- open.
 use Rattle.std.proofs.Common.{IsPermutation, List, [], ap, append_assoc, ap₂, arith, count_by, drop, get_or, length, map, refl, subst, suc, sym, take, zero, ℕ, ◌&&◌, ◌++◌, ◌+◌, ◌<◌, ◌==◌, ◌∙◌, ◌∷◌, ◌≡◌, ◌≤◌}
-use Rattle.plan_laws.proofs.Imports.{All, All-append, All-cons, All-drop, All-nil, All-permutation, All-push, All-take, All-weaker, Contains, Contains-permutation, IsDistinct-IsPermutation, IsGraph, IsPermutation-append, IsPermutation-append_comm, IsPermutation-append_left, IsPermutation-append_right, IsPermutation-refl, IsPermutation-same, IsPermutation-sym, IsPermutation-trans, Wire, append-nil, get_or-map, get_or_append_left, input_count, is-gapless, length-append, length-map, map-append, no_wire, output_count, rank-kept, rank_at, sum_by-IsPermutation, wire-input, wire-output, wire_at, AllFitDraft, Draft, FitsDraft, IsDraft, consumer_of, no_draft, ports_from, ports_of, producer_of, taken_by, wires_to, with_node, with_nodes, DraftNode, NodePort}
+use Rattle.plan_laws.proofs.Imports.{All, All-append, All-cons, All-drop, All-nil, All-permutation, All-push, All-take, All-weaker, AllFitDraft, ArePortsOnce, Contains, Contains-permutation, Draft, DraftNode, FitsDraft, IsDistinct-IsPermutation, IsDraft, IsGraph, IsPermutation-append, IsPermutation-append_comm, IsPermutation-append_left, IsPermutation-append_right, IsPermutation-refl, IsPermutation-same, IsPermutation-sym, IsPermutation-trans, NodePort, Wire, append-nil, consumer_of, get_or-map, get_or_append_left, input_count, is-gapless, length-append, length-map, map-append, no_draft, no_wire, output_count, ports_from, ports_of, producer_of, rank-kept, rank_at, sum_by-IsPermutation, taken_by, wire-input, wire-output, wire_at, wires_to, with_node, with_nodes}
 use Rattle.plan_laws.proofs.graph.Ports.{IsPortFrom, at_node, count-at, eqb-flips, ports-contain, ports-distinct, ports-from, ports_from-push, same-place, same_port, sum_by-map}
 use Rattle.plan_laws.proofs.graph.Places.{run-length, run-split}
 
@@ -169,10 +169,9 @@ module _ (f : Wire → NodePort) (ks : List ℕ) (ws : List Wire)
   side-port e lt = from-map (IsPortFrom 0 ks) f ws
       (All-permutation (IsPortFrom 0 ks) _ _ back (ports-from 0 ks)) e no_wire lt
 
-  side-once : (e g : ℕ) → e < length ws → g < length ws
-      → (f (get_or ws e no_wire)).node ≡ (f (get_or ws g no_wire)).node
-      → (f (get_or ws e no_wire)).port ≡ (f (get_or ws g no_wire)).port → e ≡ g
-  side-once e g le lg n o =
+  side-once : ArePortsOnce (λ w. (f w).node) (λ w. (f w).port) ws
+  unfolding wire_at
+  side-once e g le lg is =
       let distinct = IsDistinct-IsPermutation same_port (λ p q. ap₂ (λ a b. a && b)
       (eqb-flips p.node q.node) (eqb-flips p.port q.port)) (ports_from 0 ks) (map f ws) back
       (ports-distinct 0 ks) in
@@ -182,6 +181,8 @@ module _ (f : Wire → NodePort) (ks : List ℕ) (ws : List Wire)
         get_or-map f ws g no_wire (f no_wire) lg,
         same-place (map f ws) e g (f no_wire) distinct,
         length-map,
+        is.0,
+        is.1,
       )
 
   -- a port that is used comes with all below it

@@ -8,11 +8,7 @@ pub ports_from-push : (n : ℕ) (ks : List ℕ) (k : ℕ) → ports_from n (ks +
     ++ ports_of (n + length ks) 0 k
 ports_from-push n [] k = search (arith, append-nil)
 ports_from-push n (j ∷ ks) k =
-    let place : suc n + length ks ≡ n + suc (length ks) = omega arith in
-    ap (λ l. ports_of n 0 j ++ l) (ports_from-push (suc n) ks k
-    ∙ ap (λ m. ports_from (suc n) ks ++ ports_of m 0 k) place)
-    ∙ sym (append_assoc (ports_of n 0 j) (ports_from (suc n) ks)
-    (ports_of (n + suc (length ks)) 0 k))
+    search (arith, append_assoc, ports_from-push (suc n) ks k)
 
 -- ---- which ports there are
 

@@ -1,8 +1,7 @@
 -- The meaning of blocks of nodes, one behind the other, and how many rows the nodes of a kind pull.
-use Rattle.plan_laws.proofs.Imports.{Bool, IsPermutation, List, [], ap, arith, cond, length, refl, subst, suc, sym, true, zero, ℕ, ◌++◌, ◌+◌, ◌<◌, ◌∙◌, ◌∷◌, ◌≡◌, AllByRecursion, AllZip, AllZip-long, DraftNode, IsPermutation-append, IsPermutation-refl, IsPermutation-same, IsPermutation-trans, Kind, Row, Spec, and_from, and_parts, append-nil, append_assoc, every-append, joint_node, lane_nodes, moved_nodes, nodes_raised, length-append, length-map, length_permutation, or_cases, source_nodes, taken_by, Flow, RowsOfSources, all_certain, rows_together, any_needs, flow_rows, flows_of, IsNoLimit, IsOpenNode, IsSourceSpec, IsTold, MakesRows, NodesMean, MeansNode, all_valid, if_kind, is_certain, is_needed, is_valid_source, meant_by, pulls, source_list, sources_rows}
+use Rattle.plan_laws.proofs.Imports.{Bool, IsPermutation, List, [], ap, arith, cond, length, refl, resize_node, subst, suc, sym, true, zero, ℕ, ◌++◌, ◌+◌, ◌<◌, ◌∙◌, ◌∷◌, ◌≡◌, AllByRecursion, AllZip, AllZip-long, DraftNode, IsPermutation-append, IsPermutation-refl, IsPermutation-same, IsPermutation-trans, Kind, Row, Spec, and_from, and_parts, append-nil, append_assoc, every-append, joint_node, lane_nodes, moved_nodes, nodes_raised, length-append, length-map, length_permutation, or_cases, source_nodes, taken_by, Flow, RowsOfSources, all_certain, rows_together, any_needs, flow_rows, flows_of, IsNoLimit, IsOpenNode, IsSourceSpec, IsTold, MakesRows, NodesMean, MeansNode, all_valid, if_kind, is_certain, is_needed, is_valid_source, meant_by, pulls, source_list, sources_rows}
 use Rattle.plan_laws.proofs.graph.Places.{replaced-at, run-at}
 use Rattle.plan_laws.proofs.meaning.Frames.{every-moved, means-moved}
-use Rattle.query_model.specs.declared.processor_spec.Spec.TheVariants as spec
 
 -- ---- nodes
 
@@ -380,7 +379,7 @@ module _ {parts : RowsOfSources} {unlimited : Type 0} where
   -- a resize of the first flows
   pub resize-first : (rank m n : ℕ) (Q : List Flow → Type 0) (rows : List Row) (c d : Bool)
       → 0 < n
-      → Block parts unlimited (joint_node spec.Resize rank m n ∷ [])
+      → Block parts unlimited (resize_node rank m n ∷ [])
       (Both (Spread m rows c d) Q) (Both (Spread n rows c d) Q) (λ k. 0)
   resize-first rank m n Q rows c d some = grind (
     arith,
@@ -394,7 +393,7 @@ module _ {parts : RowsOfSources} {unlimited : Type 0} where
   )
 
   pub resize-block : (rank m n : ℕ) (rows : List Row) (c d : Bool) → 0 < n
-      → Block parts unlimited (joint_node spec.Resize rank m n ∷ []) (Spread m rows c d)
+      → Block parts unlimited (resize_node rank m n ∷ []) (Spread m rows c d)
       (Spread n rows c d)
       (λ k. 0)
   resize-block rank m n rows c d some =

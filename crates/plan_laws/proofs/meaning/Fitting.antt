@@ -1,8 +1,7 @@
 -- Each plan with few parts and lanes fits.
-use Rattle.plan_laws.proofs.Imports.{None, Option, Some, [], arith, length, refl, replicate, ℕ, ◌++◌, ◌<◌, ◌∷◌, ◌≡◌, ◌≤◌, AllFitEnds, Cond, SortSpec, Span, append-nil, joint_node, length-replicate, ranks_after, FewJoined, IsSmall, PlanJoin, PlanShape, SelectPlan, body_nodes, filter_nodes, gather_nodes, grouped, lane_steps, limit_nodes, plain, plan_nodes, read_steps, select_steps, shape_nodes, sort_nodes}
+use Rattle.plan_laws.proofs.Imports.{None, Option, Some, [], arith, length, refl, replicate, ℕ, ◌++◌, ◌<◌, ◌∷◌, ◌≡◌, ◌≤◌, AllFitEnds, Cond, SortSpec, Span, append-nil, length-replicate, ranks_after, FewJoined, IsSmall, PlanJoin, PlanShape, SelectPlan, body_nodes, filter_nodes, gather_nodes, grouped, lane_steps, limit_nodes, plain, plan_nodes, read_steps, resize_node, select_steps, shape_nodes, sort_nodes}
 use Rattle.plan_laws.proofs.graph.Fitting.{FitsBlock, Levels, block-append, joint-fit, joint-level, lanes-level, level-append, same-ranks, sources-fit, stay-level, node-fit}
 use Rattle.plan_laws.proofs.graph.Frames.{fits-behind}
-use Rattle.query_model.specs.declared.processor_spec.Spec.TheVariants as spec
 
 filter-level : (f : Option Cond) (q n r t : ℕ) → r < q → q < t
     → Levels (filter_nodes f q n) (replicate n r) n t
@@ -10,10 +9,10 @@ filter-level f q n r t low high = grind (arith, stay-level, lanes-level)
 
 -- a resize of the first of the open ends
 first-fit : (ends m r : ℕ) → r < 2 → ends ≤ 32
-    → FitsBlock (joint_node spec.Resize 2 ends 1 ∷ []) (replicate ends r ++ replicate m 1)
+    → FitsBlock (resize_node 2 ends 1 ∷ []) (replicate ends r ++ replicate m 1)
     (2 ∷ replicate m 1)
 first-fit ends m r low few =
-    node-fit (joint_node spec.Resize 2 ends 1) [] (replicate ends r) (replicate m 1) refl
+    node-fit (resize_node 2 ends 1) [] (replicate ends r) (replicate m 1) refl
     (length-replicate ends r) (same-ranks ends r 2 low) few (omega arith)
 
 -- so many open ends of one rank with the rows of FROM

@@ -1,8 +1,7 @@
 -- A list of nodes of the forms of a plan's is a graph of few nodes.
-use Rattle.plan_laws.proofs.Imports.{List, [], ap, arith, cond, length, refl, ◌+◌, ◌≡◌, ◌≤◌, AllFitDraft, DraftNode, IsDraftGraph, no_draft, sum_by-cons, with_nodes, Count, count_over, each_input, each_kept, SelectPlan, IsSmall, plan_nodes, NodeForm, node_form, forms, same_kind}
+use Rattle.plan_laws.proofs.Imports.{List, [], ap, arith, cond, length, refl, ◌+◌, ◌≡◌, ◌≤◌, AllFitDraft, DraftNode, IsDraftGraph, no_draft, row_of, sum_by-cons, with_nodes, Count, count_over, each_input, each_kept, SelectPlan, IsSmall, plan_nodes, NodeForm, node_form, forms}
 use Rattle.plan_laws.proofs.graph.Fitting.{fits}
 use Rattle.plan_laws.proofs.graph.GraphLaws.{lists-are-graphs}
-use Rattle.query_model.specs.declared.processor_spec.Kind.TheVariants as kind
 use Rattle.plan_laws.proofs.meaning.Counts.{few-nodes, nodes-counted, wires-counted}
 use Rattle.plan_laws.proofs.meaning.Fitting.{plan-fits}
 use Rattle.plan_laws.proofs.meaning.Same.{by-forms, fit-same, after-same, kind-same}
@@ -32,7 +31,7 @@ plan-graph p nodes small e =
     let bounds = few-nodes p small in
     let ranked = fit-same nodes steps [] e ends.0 in
     let drawn : AllFitDraft nodes no_draft = (fits nodes ranked).fit in
-    let kept = counted-same each_kept (λ x y same. ap (λ j. 1 + cond (same_kind j kind.List) 32 0)
+    let kept = counted-same each_kept (λ x y same. ap (λ j. 1 + cond (row_of j).reads_list 32 0)
     (kind-same x.spec y.spec (ap (λ (f : NodeForm). f.spec) same))) nodes steps e in
     let few : count_over each_kept nodes ≤ 124 = omega (arith, kept, bounds.0) in
     let inputs = counted-same each_input (λ x y. ap (λ (f : NodeForm). f.takes)) nodes steps e in

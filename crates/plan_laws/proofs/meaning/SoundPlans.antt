@@ -1,9 +1,8 @@
 -- What was laid down is a graph, and takes as many boxes of each kind as the query needs.
-use Rattle.plan_laws.proofs.Imports.{Bool, List, [], ap, arith, cond, length, map, sum_by, sym, ℕ, ◌++◌, ◌+◌, ◌∙◌, ◌∷◌, ◌≡◌, Checked, Draft, DraftNode, IsSmall, Kind, NodeForm, TableDecl, append-nil, append_assoc, count_over, length-map, map-map, query_boxes, no_draft, of_kind, plan_nodes, same_kind, with_node, with_nodes, Plan, boxes_needed, boxes_taken, boxes_reserved, plan_ranks, IsSoundPlan, LaysDown, select_plan}
+use Rattle.plan_laws.proofs.Imports.{Bool, List, [], ap, arith, cond, length, map, sum_by, sym, ℕ, ◌++◌, ◌+◌, ◌∙◌, ◌∷◌, ◌≡◌, Checked, Draft, DraftNode, IsSmall, Kind, NodeForm, TableDecl, append-nil, append_assoc, count_over, length-map, map-map, query_boxes, no_draft, of_kind, plan_nodes, grown_kind, row_of, same_kind, with_node, with_nodes, Plan, boxes_needed, boxes_taken, boxes_reserved, plan_ranks, IsSoundPlan, LaysDown, select_plan}
 use Rattle.plan_laws.proofs.meaning.PlanGraphs.{counted-same, plan-graph}
 use Rattle.plan_laws.proofs.meaning.Same.{kind-same}
 use Rattle.plan_laws.proofs.graph.Ports.{sum_by-map}
-use Rattle.query_model.specs.declared.processor_spec.Kind.TheVariants as kind
 use Rattle.plan_laws.proofs.meaning.BoxCounts.{boxes-counted, boxes_for, nodes-kept, plan-needs}
 
 -- ---- boxes
@@ -18,7 +17,7 @@ needs-are q tables lanes rows header p l k =
     grind (arith, sum_by-map) in
     let kept = ap (sum_by (boxes_reserved k)) l.reserves in
     let whole = counted-same (boxes_for k) (λ x y form. ap (λ j. cond (same_kind j k) 1 0
-    + cond (same_kind j kind.List) (cond (same_kind kind.Csv k) 32 0) 0)
+    + cond (row_of j).reads_list (cond (same_kind grown_kind k) 32 0) 0)
     (kind-same x.spec y.spec (ap (λ (f : NodeForm). f.spec) form))) l.copies steps l.same
     ∙ plan-needs q tables lanes rows header k in
     omega (arith, taken, kept, boxes-counted k 0 l.copies, whole)

@@ -1,18 +1,19 @@
-use Rattle.std.proofs.Common.{arith}
-use Rattle.plan_run.proofs.OneBox.{box-read, changes-if-err, changes-if-ok}
+use Rattle.plan_run.proofs.Imports.{Changes-map_set, Loads, arith, no_box, ◌≡◌}
+use Rattle.plan_run.proofs.Loading.{box-read}
 use Rattle.plan_run.proofs.boxes.load_at.Goals as goal
 
-pub load_box-requires-clause-blank : goal.load_box-requires-clause-blank
-load_box-requires-clause-blank g c = grind (arith, box-read)
+pub unreachable-requires : goal.unreachable-requires
+unreachable-requires g c = grind (arith, box-read)
 
-pub load_box-requires-clause-of_kind : goal.load_box-requires-clause-of_kind
-load_box-requires-clause-of_kind g c = grind (arith, box-read)
+pub unreachable-requires-in-Err-WrongKind : goal.unreachable-requires-in-Err-WrongKind
+unreachable-requires-in-Err-WrongKind g c = grind (arith, box-read)
 
-pub returns-clause-ok : goal.returns-clause-ok
-returns-clause-ok g c = changes-if-ok _ c.args.i _ c.args.boxes.now.items c.index_mut.result.now
-    c.load_box.new.b c.requires.in_range c.index_mut.ensures.value _ c.load_box.ensures.ok
+pub returns-in-Ok-clause-ok : goal.returns-in-Ok-clause-ok
+returns-in-Ok-clause-ok g c = Changes-map_set _ no_box c.args.i (λ p q. Loads p c.args.spec q)
+    c.args.boxes.now.items c.index_mut.result.now c.load.new.self c.requires.in_range
+    c.index_mut.ensures.value c.in-Ok.ensures.ok
 
-pub returns-clause-unchanged : goal.returns-clause-unchanged
-returns-clause-unchanged g c = changes-if-err _ c.args.i _ c.args.boxes.now.items
-    c.index_mut.result.now c.load_box.new.b c.requires.in_range c.index_mut.ensures.value _
-    c.load_box.ensures.unchanged
+pub returns-in-Err-Memory-clause-unchanged : goal.returns-in-Err-Memory-clause-unchanged
+returns-in-Err-Memory-clause-unchanged g c = Changes-map_set _ no_box c.args.i (λ p q. q ≡ p)
+    c.args.boxes.now.items c.index_mut.result.now c.load.new.self c.requires.in_range
+    c.index_mut.ensures.value c.in-Err-Memory.ensures.unchanged

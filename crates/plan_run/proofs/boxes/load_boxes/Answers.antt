@@ -1,14 +1,14 @@
-use Rattle.std.proofs.Common.{arith}
+use Rattle.plan_run.proofs.Imports.{arith}
 use Rattle.plan_run.proofs.Loading.{in-map, loads-still, next-blank, next-kind, next-rest, next-spec, none-more, one-loaded}
 use Rattle.plan_run.proofs.boxes.load_boxes.Goals as goal
 
 pub load_at-requires-clause-blank : goal.load_at-requires-clause-blank
-load_at-requires-clause-blank g c = next-blank c.loop-i.i c.args.specs.items _ _
+load_at-requires-clause-blank g c κs lives = next-blank c.loop-i.i c.args.specs.items _ _
     c.loop-i.invariant.loads c.requires.blank
     (in-map _ c.args.boxes.now.items c.loop-i.i (omega arith))
 
 pub load_at-requires-clause-of_kind : goal.load_at-requires-clause-of_kind
-load_at-requires-clause-of_kind g c =
+load_at-requires-clause-of_kind g c κs lives =
     next-kind c.loop-i.i c.args.specs.items _ _ c.remove.result c.loop-i.invariant.loads
     c.requires.kinds (omega arith) (next-spec c.args.specs.items c.loop-i.specs.items
     c.loop-i.i c.remove.result c.loop-i.invariant.rest c.remove.ensures.value (omega arith))

@@ -1,5 +1,4 @@
-use Rattle.std.proofs.Common.{◌≡◌, ◌+◌, length, ap, ◌∙◌, arith}
-use Rattle.plan_run.proofs.Imports.{IsBlank, length_push}
+use Rattle.plan_run.proofs.Imports.{IsBlank, ap, arith, length, length_push, ◌+◌, ◌∙◌, ◌≡◌}
 use Rattle.plan_run.proofs.Loading.{front-all, one-over, rest-all}
 use Rattle.plan_run.proofs.boxes.put_back.Goals as goal
 

@@ -1,5 +1,4 @@
-use Rattle.std.proofs.Common.{◌≡◌, ◌+◌, ◌≤◌, ◌++◌, length, map, vec_capacity}
-use Rattle.plan_run.proofs.Imports.{All, IsBlank}
+use Rattle.plan_run.proofs.Imports.{All, IsBlank, length, map, vec_capacity, ◌++◌, ◌+◌, ◌≡◌, ◌≤◌}
 use Rattle.plan_run.proofs.boxes.put_back.Given as goal
 
 abbrev pub invariant-loop-box : goal.invariant-loop-box

@@ -1,5 +1,4 @@
-use Rattle.std.proofs.Common.{arith, length, rules, ◌+◌, ◌∙◌, ◌≡◌}
-use Rattle.plan_run.proofs.Imports.{kinds_taken}
+use Rattle.plan_run.proofs.Imports.{arith, kinds_taken, length, rules, ◌+◌, ◌∙◌, ◌≡◌}
 use Rattle.plan_run.proofs.Taking.{kept-read, kinds-length, left-more, left-same, more-kinds, next-there, node-kind, taken-more, taken-same}
 use Rattle.plan_run.proofs.boxes.take_boxes.Goals as goal
 
@@ -34,7 +33,7 @@ take_next-requires-in-loop-k-clause-there g c =
     next-there (kinds_taken c.args.specs.now.items c.args.kept.now)
     (length c.args.specs.now.items + c.loop-k.k) _ _ _ c.requires.stock c.loop-k.invariant.left
     (omega (arith, kinds-length c.args.specs.now.items c.args.kept.now))
-    (kept-read c.args.specs.now.items c.args.kept.now c.as_slice.result.now c.loop-k.k
+    (kept-read c.args.specs.now.items c.args.kept.now c.as_slice.result.now c.loop-k.k _
     c.as_slice.ensures (omega arith))
 
 pub loop-k-preserved : goal.loop-k-preserved
@@ -43,7 +42,7 @@ loop-k-preserved g c =
     let place = length c.args.specs.now.items + c.loop-k.k in
     let more = more-kinds kinds place _
     (omega (arith, kinds-length c.args.specs.now.items c.args.kept.now))
-    (kept-read c.args.specs.now.items c.args.kept.now c.as_slice.result.now c.loop-k.k
+    (kept-read c.args.specs.now.items c.args.kept.now c.as_slice.result.now c.loop-k.k _
     c.as_slice.ensures (omega arith)) in
     let next : place + 1 ≡ length c.args.specs.now.items + (c.loop-k.k + 1) = omega arith in
     record {

@@ -1,5 +1,4 @@
-use Rattle.std.proofs.Common.{◌≡◌, ◌+◌, ◌≤◌, length, map, take, vec_capacity}
-use Rattle.plan_run.proofs.Imports.{kinds_taken, left_after, taken_for}
+use Rattle.plan_run.proofs.Imports.{kinds_taken, left_after, length, map, take, taken_for, vec_capacity, ◌+◌, ◌≡◌, ◌≤◌}
 use Rattle.plan_run.proofs.boxes.take_boxes.Given as goal
 
 abbrev pub invariant-loop-i : goal.invariant-loop-i

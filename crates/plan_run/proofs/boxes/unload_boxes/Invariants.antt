@@ -1,8 +1,7 @@
-use Rattle.std.proofs.Common.{map}
-use Rattle.plan_run.specs.Steps.{UnloadsFirst}
+use Rattle.plan_run.proofs.Imports.{FirstBoxes, Unloads, map}
 use Rattle.plan_run.proofs.boxes.unload_boxes.Given as goal
 
 abbrev pub invariant-loop-i : goal.invariant-loop-i
-invariant-loop-i g l = UnloadsFirst l.i
-    (map (λ b. (goal.Processor-dyn g (b.vtable, b.value)).seen b.value) l.initial.boxes.items)
-    (map (λ b. (goal.Processor-dyn g (b.vtable, b.value)).seen b.value) l.boxes.items)
+invariant-loop-i g l =
+    FirstBoxes l.i (λ n. Unloads) (map g.P.Processor.seen l.initial.boxes.items)
+    (map g.P.Processor.seen l.boxes.items)

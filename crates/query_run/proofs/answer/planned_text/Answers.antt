@@ -16,14 +16,22 @@ pub failure_of-requires : goal.failure_of-requires
 failure_of-requires g c =
     plan-fault _ _ _ c.in-Err.fault c.in-Err.ensures.fault
 
-pub returns-in-Ok-graph_text-clause-text : goal.returns-in-Ok-graph_text-clause-text
-returns-in-Ok-graph_text-clause-text g c =
-    made-text c.requires.within c.requires.checked c.requires.planned c.in-Ok-graph_of.ensures
-    c.requires.runnable c.in-Ok-graph_text.text.items c.in-Ok-graph_text.ensures.text
+pub returns-in-Ok-graph_text : goal.returns-in-Ok-graph_text
+returns-in-Ok-graph_text g c = record {
+  blank = c.in-Ok-graph_text.ensures.blank;
+  text = made-text c.requires.within c.requires.checked c.requires.planned
+      c.in-Ok-graph_of.ensures c.requires.runnable c.in-Ok-graph_text.text.items
+      c.in-Ok-graph_text.ensures.gives;
+  cause = tt;
+}
 
-pub returns-clause-cause : goal.returns-clause-cause
-returns-clause-cause g c =
-    made-cause c.requires.within c.requires.checked c.requires.planned c.in-Ok-graph_of.ensures
-    c.requires.runnable c.in-Err.fault c.failure_of.result c.as_slice-tables.ensures
-    c.as_slice.ensures.value c.in-Ok.ensures c.failure_of.ensures c.in-Err.ensures.rack
-    c.in-Err.ensures.fault
+pub returns : goal.returns
+returns g c = record {
+  blank = c.in-Err.ensures.blank;
+  text = tt;
+  cause =
+      made-cause c.requires.within c.requires.checked c.requires.planned c.in-Ok-graph_of.ensures
+      c.requires.runnable c.in-Err.fault c.failure_of.result c.as_slice-tables.ensures
+      c.as_slice.ensures.value c.in-Ok.ensures c.failure_of.ensures c.in-Err.ensures.rack
+      c.in-Err.ensures.fault;
+}
