@@ -386,7 +386,9 @@ fn word_at<'a>(
     }
 }
 
-// A side without binary operators: a column, a number, a string or a call.
+// A side without binary operators: a column, a number, a string or a call. What a level of nested
+// parts needs only beside the level below it stands in frames of its own.
+#[inline(never)]
 #[cycle(part)]
 fn side_at(
     alloc: Global,
@@ -409,6 +411,7 @@ fn side_at(
 }
 
 // A part without binary operators: a side, what stands in parentheses, or a negation.
+#[inline(never)]
 #[cycle(part)]
 fn first_term(
     alloc: Global,
@@ -474,6 +477,7 @@ fn turn_of(
 }
 
 // The part at the left, and all that binary operators as tight as `least` join to it.
+#[inline(never)]
 #[cycle(part)]
 #[tactic(auto, using(crate::proofs::Turns::turn, crate::proofs::Turns::no_turn, crate::proofs::Turns::no_turns, crate::proofs::Turns::end_of_turns, crate::proofs::Turns::fault_goes))]
 fn joined(
