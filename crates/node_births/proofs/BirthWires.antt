@@ -37,7 +37,7 @@ ranks-length ranks (b ∷ births) = ranks-length (set_ranks ranks b.places b.gro
 abbrev pub HasNone : List Wire → ℕ → Type 0
 HasNone wires m = (input_count wires m ≡ 0) × (output_count wires m ≡ 0)
 
-none-both : (a b : List Wire) (m : ℕ) → HasNone a m → HasNone b m → HasNone (a ++ b) m
+pub none-both : (a b : List Wire) (m : ℕ) → HasNone a m → HasNone b m → HasNone (a ++ b) m
 none-both a b m h k = grind (arith, count_by-append)
 
 -- none of the wires ends or begins there
@@ -64,7 +64,7 @@ module _ (n : ℕ) (places : List ℕ) (m : ℕ) (ne : n ≢ m)
   end-other (New k) h = ne_eqb _ m (avoids places m off k (ltb-true k (length places) h))
 
   -- a growth of another node has no wire at a node that it didn't take
-  new-none : (edges : List NewEdge) → list_any (has_wrong_end (length places)) edges ≡ false
+  pub new-none : (edges : List NewEdge) → list_any (has_wrong_end (length places)) edges ≡ false
       → HasNone (new_wires n places edges) m
   new-none [] h = (refl, refl)
   new-none (e ∷ edges) h =

@@ -1,7 +1,8 @@
 -- A node that waits for its birth may begin once it was loaded and born.
-use Rattle.node_births.proofs.Imports.{AwaitsBirth, BoxHolds, BoxPicture, FollowsKept, Identity, IsNewborn, IsSeatOf, Gains, Lists, Loads, MakesStep, NodeCell, NodePorts, NodeSeat, None, Picture, PortsHold, SameLists, SeatState, Spec, [], after_grow, ap, arith, cell_ports, in_count, length-replicate, new_input, no_flags, out_count, replicate, replicate-append-replicate, follows-new, is_over_stage, is_unborn_stage, length, new_picture, nothing, ports_picture, refl, stage-made, state-made, still-holds, still-lists, still-quiet, subst, sym, view, ℕ, ◌++◌, ◌-◌, ◌∙◌, ◌≡◌, ◌≤◌}
+use Rattle.node_births.proofs.Imports.{AwaitsBirth, BoxHolds, BoxPicture, FollowsKept, Identity, IsNewborn, IsSeatOf, Gains, Lists, Loads, MakesStep, NodeCell, NodePorts, NodeSeat, None, Picture, PortsHold, SameLists, SeatState, Spec, [], after_grow, ap, arith, cell_ports, in_count, length-replicate, new_input, no_flags, out_count, replicate, replicate-append-replicate, follows-new, is_over_stage, is_unborn_stage, length, new_picture, nothing, number-made, ports_picture, refl, stage-made, state-made, still-holds, still-lists, still-quiet, subst, sym, view, ℕ, ◌++◌, ◌-◌, ◌∙◌, ◌≡◌, ◌≤◌}
 use Rattle.core_laws.specs.declared.types.Step.TheVariants as step
 use Rattle.node_cells.proofs.NewCells.{fresh-box}
+use Rattle.node_cells.proofs.StayLaws.{wires-still}
 use Rattle.exec_laws.specs.declared.edges.NodeStatus.TheVariants as node
 
 module _ {P : Type 0} (seen : P → BoxPicture) (t : Identity) (old : NodeCell P)
@@ -69,6 +70,15 @@ module _ {P : Type 0} (seen : P → BoxPicture) (t : Identity) (old : NodeCell P
       mark = λ over. let z : node.Due ≡ node.Over = over in cc;
     };
     ports = refl;
+    same = record {
+      inputs = refl;
+      outputs = refl;
+      sources = refl;
+      targets = refl;
+      number = number-made i.seat m ∙ number-made h.seat i;
+      wires = λ e. wires-still i.seat m (λ _. refl) e ∙ wires-still h.seat i (λ _. refl) e;
+    };
+    reserve = refl;
     mark = refl;
   }
 

@@ -121,6 +121,17 @@ is-counted test (x ∷ xs) h = elim (cases_Bool (test x)) [
       omega (arith, e, more)
 ]
 
+none-counted : {A : Type 0} (test : A → Bool) (xs : List A) → list_any test xs ≡ false
+    → count_by test xs ≡ 0
+none-counted test [] h = refl
+none-counted test (x ∷ xs) h =
+    let both = or_parts (test x) (list_any test xs) h in
+    count-no test x xs both.0 ∙ none-counted test xs both.1
+
+pub counted : {A : Type 0} (test : A → Bool) (xs : List A) → 1 ≤ count_by test xs
+    → list_any test xs ≡ true
+counted test xs h = grind (arith, cases_Bool, list_any, none-counted)
+
 -- where each number is counted once at most, none stands twice
 pub counted-once : (places : List ℕ) → ((m : ℕ) → place_count places m ≤ 1) → AreOnce places
 counted-once [] h = λ i j li lj e. absurd (omega (arith, li))

@@ -62,7 +62,7 @@ pub use Rattle.node_cells.specs.declared.stop_cause.StopCause.{StopCause}
 pub use Rattle.proc_api.proofs.Imports.{All-from_get_or, get_or-append_seam, get_or-eq_default, list_any_at, lt-ltb, no_box, reserved_edges}
 pub use Rattle.proc_api.proofs.RackLaws.{kind-at}
 pub use Rattle.proc_api.specs.KindRows.{all_kinds}
-pub use Rattle.proc_api.specs.Reserves.{no_reserve}
+pub use Rattle.proc_api.specs.Reserves.{AreReserves, no_reserve}
 unfoldable pub use Rattle.proc_api.specs.Reserves.{reserve_at}
 pub use Rattle.std.proofs.lemmas.Grind.{flat_map-append}
 pub use Rattle.std.proofs.lemmas.List.Concat.{get_or-flat_map}

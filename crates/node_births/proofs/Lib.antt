@@ -16,3 +16,10 @@ pub mod BirthsLeft
 pub mod FlawsLeft
 pub mod PlacesLeft
 pub mod GraphLeft
+pub mod StandLaws
+pub mod ReservedWires
+pub mod NextPlaces
+pub mod NextWires
+pub mod NextStands
+pub mod NextBoxes
+pub mod NotedBirths

@@ -31,7 +31,7 @@ module _ {A : Type 0} (f : Reserve → List A) (test : A → Bool) where
       arith) (λ e. absurd (omega (arith, e)))) (one-passes rs k (omega (arith, lt)) (λ j lj ne. h
       (suc j) (omega (arith, lj)) (λ e. ne (omega (arith, e)))))
 
-births-apart : (m n : ℕ) → m ≢ n → (births : List Birth) → births_of n (births_of m births) ≡ []
+pub births-apart : (m n : ℕ) → m ≢ n → (births : List Birth) → births_of n (births_of m births) ≡ []
 births-apart m n ne [] = refl
 births-apart m n ne (b ∷ births) =
     grind (arith, cases_eq, eq-eqb, ne_eqb, births-apart m n ne births)
@@ -46,7 +46,7 @@ wires-count (b ∷ births) =
     omega (arith, all, own, rest, sum)
 
 -- births of one node have as many edges at most as are left
-edges-within : (wires : List Wire) (n : ℕ) (r : ReserveForm) (own births : List Birth)
+pub edges-within : (wires : List Wire) (n : ℕ) (r : ReserveForm) (own births : List Birth)
     → AreSoundBirths wires n r own births → born_edges own ≤ r.left.edges
     → born_edges (own ++ births) ≤ r.left.edges
 edges-within wires n r own [] h few = rw append-nil few

@@ -1,11 +1,12 @@
 -- No two reserves share a node, no node that grows is in one, and the box of a node is blank where
 -- a reserve holds it.
-use Rattle.node_births.proofs.Imports.{All-from_get_or, IsBorn, List, None, Reserve, [], and_parts, arith, both_ways, cases_lt, count_by-none, eq-eqb, false, false_from_ne_true, holds_node, input_count, length, list_any, list_any_at, list_any_none, ne_eqb, no_reserve, no_wire, output_count, refl, reserve_of, subst, suc, sym, true, wire_at, zero, ℕ, ◌+◌, ◌<◌, ◌==◌, ◌∷◌, ◌≡◌, ◌≢◌, ◌≤◌}
+use Rattle.node_births.proofs.Imports.{All-from_get_or, AreReserves, IsBorn, List, None, Reserve, Wire, [], and_parts, arith, both_ways, cases_lt, count_by-none, eq-eqb, false, false_from_ne_true, holds_node, input_count, length, list_any, list_any_at, list_any_none, ne_eqb, no_reserve, no_wire, output_count, refl, reserve_of, subst, suc, sym, true, wire_at, zero, ℕ, ◌+◌, ◌<◌, ◌==◌, ◌∷◌, ◌≡◌, ◌≢◌, ◌≤◌}
 use Rattle.node_births.specs.LeftNodes.{GraphBefore, IsGraphBefore}
 unfoldable use Rattle.node_births.proofs.Imports.{box_at, reserve_at}
 
-first-of : (rs : List Reserve) (k : ℕ) → k < length rs → ((j : ℕ) → j < k → (reserve_at rs j).node ≢
-    (reserve_at rs k).node) → reserve_of rs (reserve_at rs k).node ≡ reserve_at rs k
+pub first-of : (rs : List Reserve) (k : ℕ) → k < length rs
+    → ((j : ℕ) → j < k → (reserve_at rs j).node ≢ (reserve_at rs k).node)
+    → reserve_of rs (reserve_at rs k).node ≡ reserve_at rs k
 unfolding reserve_at
 first-of [] k lt h = absurd (omega (arith, lt))
 first-of (r ∷ rs) zero lt h = rw (eq-eqb r.node r.node refl) refl
@@ -18,6 +19,28 @@ unfolding reserve_at
 none-of-reserves [] n h = refl
 none-of-reserves (r ∷ rs) n h = rw (ne_eqb r.node n (h 0 (omega arith)))
     (none-of-reserves rs n (λ j lt. h (suc j) (omega (arith, lt))))
+
+-- no reserve holds an unreserved node
+pub not-held : (rs : List Reserve) (m k : ℕ) → k < length rs → list_any (holds_node m) rs ≡ false
+    → holds_node m (reserve_at rs k) ≡ false
+unfolding reserve_at
+not-held rs m k lt none = false_from_ne_true _ (λ h.
+    both_ways _ none (list_any_at (holds_node m) rs k no_reserve lt h))
+
+-- at a node that a reserve holds the graph has no wire
+pub no-wires : {nodes base : ℕ} {wires : List Wire} {rs : List Reserve}
+    → AreReserves nodes base wires rs → (m k : ℕ) → k < length rs
+    → holds_node m (reserve_at rs k) ≡ true
+    → (input_count wires m ≡ 0) × (output_count wires m ≡ 0)
+unfolding wire_at
+no-wires {wires} {rs} fit m k lt h = (
+  count_by-none no_wire (λ w. w.to == m) wires (λ e le. ne_eqb _ m (λ is.
+      both_ways _ (not-held rs _ k lt (fit.to_added e le).unreserved)
+      (subst (λ x. holds_node x (reserve_at rs k) ≡ true) (sym is) h))),
+  count_by-none no_wire (λ w. w.from == m) wires (λ e le. ne_eqb _ m (λ is.
+      both_ways _ (not-held rs _ k lt (fit.from_added e le).unreserved)
+      (subst (λ x. holds_node x (reserve_at rs k) ≡ true) (sym is) h))),
+)
 
 module _ {g : GraphBefore} (b : IsGraphBefore g) where
   abbrev pub r_at : ℕ → Reserve
@@ -37,11 +60,9 @@ module _ {g : GraphBefore} (b : IsGraphBefore g) where
       → holds_node m (r_at j) ≡ true → holds_node m (r_at k) ≡ true → j ≡ k
   held-once m j k lj lk hj hk = grind (arith, held-at, cases_lt)
 
-  -- no reserve holds an unreserved node
-  unheld : (m k : ℕ) → k < length g.reserves → list_any (holds_node m) g.reserves ≡ false
+  pub unheld : (m k : ℕ) → k < length g.reserves → list_any (holds_node m) g.reserves ≡ false
       → holds_node m (r_at k) ≡ false
-  unfolding reserve_at
-  unheld m k lt none = grind (arith, false_from_ne_true, both_ways, list_any_at)
+  unheld m k = not-held g.reserves m k
 
   -- a node that grows is in none
   pub grower-unheld : (j k : ℕ) → j < length g.reserves → k < length g.reserves
@@ -52,18 +73,9 @@ module _ {g : GraphBefore} (b : IsGraphBefore g) where
   pub reserve-of : (k : ℕ) → k < length g.reserves → reserve_of g.reserves (r_at k).node ≡ r_at k
   reserve-of k lt = first-of g.reserves k lt (λ j less. (b.fit.apart j k less lt).growing)
 
-  -- at a node that a reserve holds the graph has no wire
   pub none-at : (m k : ℕ) → k < length g.reserves → holds_node m (r_at k) ≡ true
       → (input_count g.wires m ≡ 0) × (output_count g.wires m ≡ 0)
-  unfolding wire_at
-  none-at m k lt h = (
-    count_by-none no_wire (λ w. w.to == m) g.wires (λ e le. ne_eqb _ m (λ is.
-        both_ways _ (unheld _ k lt (b.fit.to_added e le).unreserved)
-        (subst (λ x. holds_node x (r_at k) ≡ true) (sym is) h))),
-    count_by-none no_wire (λ w. w.from == m) g.wires (λ e le. ne_eqb _ m (λ is.
-        both_ways _ (unheld _ k lt (b.fit.from_added e le).unreserved)
-        (subst (λ x. holds_node x (r_at k) ≡ true) (sym is) h))),
-  )
+  none-at m k = no-wires b.fit m k
 
   -- a reserve's nodes are nodes of the graph, and blank
   pub held-below : (m k : ℕ) → k < length g.reserves → holds_node m (r_at k) ≡ true

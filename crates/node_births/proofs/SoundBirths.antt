@@ -3,6 +3,7 @@ use Rattle.node_births.proofs.Imports.{AllByRecursion, AreOnce, Birth, Blank, Bo
 use Rattle.exec_laws.specs.declared.growth.GrowthFlaw.TheVariants as flaw
 use Rattle.node_births.proofs.BlankPlaces.{blank-places, blanks-count, counted-once, is-counted, node_count, place_count}
 use Rattle.node_births.proofs.ReserveLaws.{held-once, r_at, reserve-of}
+use Rattle.node_births.specs.Left.{ReserveForm}
 use Rattle.node_births.specs.LeftNodes.{GraphBefore, IsGraphBefore, reserve_before}
 use Rattle.node_births.specs.OwnBirths.{AreSoundBirths, IsSoundBirth, left_without}
 unfoldable use Rattle.node_births.proofs.Imports.{box_at}
@@ -122,13 +123,49 @@ pub place-cons : (b : Birth) (births : List Birth) (n : ℕ)
     → is_place (b ∷ births) n ≡ (list_any (λ (k : ℕ). k == n) b.places || is_place births n)
 place-cons b births n = list_any-append (λ (k : ℕ). k == n) b.places (all_places births)
 
-births-append : (n : ℕ) (xs ys : List Birth)
+pub births-append : (n : ℕ) (xs ys : List Birth)
     → births_of n (xs ++ ys) ≡ births_of n xs ++ births_of n ys
 births-append n xs ys = filter-append (λ (b : Birth). b.expander == n) xs ys
 
 pub holds-within : (first count m : ℕ) → first ≤ m → m < first + count
     → (nat_le first m && nat_lt m (first + count)) ≡ true
 holds-within first count m le lt = grind arith
+
+-- ---- one birth
+
+module _ {wires : List Wire} {n : ℕ} {r : ReserveForm} {earlier : List Birth} {b : Birth}
+    (s : IsSoundBirth wires n r earlier b) where
+  abbrev blanks_before : List Blank
+  blanks_before = (left_without r.left earlier).blanks
+
+  pub flawless : NoFlaw r.rank (own_wires n s.sources s.targets) (left_without r.left earlier) n
+      b.growth b.places
+  flawless = rw s.places (no-flaw _ r.nodes _ (left_without r.left earlier) n b.growth s.none)
+
+  pub as-many : length b.places ≡ length b.growth.specs
+  as-many = ap length s.places ∙ places-length (map form_kind b.growth.specs) blanks_before r.nodes
+      ∙ length-map b.growth.specs form_kind
+
+  -- no edge has a wrong end
+  pub ends-right : list_any (has_wrong_end (length b.places)) b.growth.edges ≡ false
+  ends-right = subst (λ c. list_any (has_wrong_end c) b.growth.edges ≡ false) (sym as-many)
+      flawless.ends
+
+  -- each place is the node of a blank, and no two are that of one
+  pub places-left : (m : ℕ) → place_count b.places m ≤ node_count blanks_before m
+  places-left m = rw s.places
+      (blank-places (map form_kind b.growth.specs) blanks_before r.nodes flawless.blanks m)
+
+  pub place-left : (m : ℕ) → list_any (λ (k : ℕ). k == m) b.places ≡ true
+      → 1 ≤ node_count blanks_before m
+  place-left m there = let one = is-counted (λ (k : ℕ). k == m) b.places there in
+      let some = places-left m in omega (arith, one, some)
+
+  -- no earlier birth took a place
+  pub free-place : (m : ℕ) → list_any (λ (k : ℕ). k == m) b.places ≡ true
+      → is_place earlier m ≡ false
+  free-place m there = false_from_ne_true _ (λ is. let one = place-left m there in
+      let none = (blanks-left earlier r.left.blanks m).1 is in absurd (omega (arith, one, none)))
 
 -- ---- births in order
 
@@ -186,14 +223,6 @@ module _ {g : GraphBefore} (before : IsGraphBefore g) where
     abbrev pub left : Left
     left = left_without (reserve_before g r.node).left (births_of r.node e)
 
-    pub flawless : NoFlaw (reserve_before g r.node).rank
-        (own_wires r.node h.sound.sources h.sound.targets) left r.node b.growth b.places
-    flawless = rw h.sound.places (no-flaw _ (length g.boxes) _ left r.node b.growth h.sound.none)
-
-    places-left : (m : ℕ) → place_count b.places m ≤ node_count left.blanks m
-    places-left m = rw h.sound.places
-        (blank-places (map form_kind b.growth.specs) left.blanks (length g.boxes) flawless.blanks m)
-
     counts-before : (m : ℕ) → node_count left.blanks m
         ≤ node_count (blanks_of g.boxes [] r.first_node r.nodes) m
     counts-before m = subst (λ q. node_count left.blanks m ≤ node_count (blanks_of g.boxes []
@@ -201,34 +230,29 @@ module _ {g : GraphBefore} (before : IsGraphBefore g) where
         r.node e) (reserve_before g r.node).left.blanks m).0
 
     pub places-once : AreOnce b.places
-    places-once = counted-once b.places (λ m. let x = places-left m in let y = counts-before m in
+    places-once = counted-once b.places (λ m. let x = places-left h.sound m in
+        let y = counts-before m in
         let z = (blanks-count g.boxes [] r.first_node r.nodes m).once in omega (arith, x, y, z))
 
     -- a place is held by the reserve, and no birth of this took it before
     pub places-held : (m : ℕ) → list_any (λ (k : ℕ). k == m) b.places ≡ true → holds_node m r ≡ true
     places-held m there =
-        let one = is-counted (λ (k : ℕ). k == m) b.places there in
-        let x = places-left m in let y = counts-before m in
+        let x = place-left h.sound m there in let y = counts-before m in
         let count = blanks-count g.boxes [] r.first_node r.nodes m in
-        let w = count.within (omega (arith, one, x, y)) in
+        let w = count.within (omega (arith, x, y)) in
         holds-within r.first_node r.nodes m w.0 w.1
 
     pub places-free : (m : ℕ) → list_any (λ (k : ℕ). k == m) b.places ≡ true
         → is_place (births_of r.node e) m ≡ false
-    places-free m there = false_from_ne_true _ (λ is.
-        let one = is-counted (λ (k : ℕ). k == m) b.places there in
-        let x = places-left m in
-        let off = blanks-left (births_of r.node e) (reserve_before g r.node).left.blanks m in
-        let none = off.1 is in absurd (omega (arith, one, x, none)))
+    places-free = free-place h.sound
 
     pub of-reserve : IsOfReserve b
     of-reserve = record {
       number = h.number;
       in_range = h.in_range;
       expander = h.sound.expander;
-      as_many = ap length h.sound.places ∙ places-length (map form_kind b.growth.specs) left.blanks
-          (length g.boxes) ∙ length-map b.growth.specs form_kind;
-      ends = flawless.ends;
+      as_many = as-many h.sound;
+      ends = (flawless h.sound).ends;
       held = places-held;
     }
 

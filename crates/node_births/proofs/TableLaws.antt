@@ -1,5 +1,5 @@
 -- Ports that a node gets have the wires of a growth.
-use Rattle.node_births.proofs.Imports.{Bool, GainsPorts, HasNewWire, Input, List, Output, Port, PortsPicture, Wire, arith, cases_lt, false, get_or_append_left, inl, inr, is_own_port, length, length-append, true, wire_at, ℕ, ◌+◌, ◌-◌, ◌≡◌, ◌⊎◌}
+use Rattle.node_births.proofs.Imports.{Bool, GainsPorts, HasNewWire, Input, List, Output, Port, PortsPicture, Wire, ap, arith, cases_lt, false, get_or_append_left, inl, inr, is_own_port, length, length-append, true, wire_at, ℕ, ◌++◌, ◌+◌, ◌-◌, ◌≡◌, ◌⊎◌}
 use Rattle.node_births.proofs.GainLaws.{kept-wire}
 use Rattle.node_births.specs.TableEdges.{EdgeRange, HasWiresOf, longer_range}
 use Rattle.proc_api.specs.Names.{no_wire}
@@ -48,18 +48,30 @@ module _ (r : EdgeRange) (more : List Wire) (c : PortsPicture) (p : Port) where
         wire_is = rw (same, less) x.wire_is;
       }
 
--- the node has the wires of the graph and of its growths, with those of one more growth
-pub more-wires : (graph grown : EdgeRange) (more : List Wire) (consumer : Bool) (n : ℕ)
-    (c d : PortsPicture) → HasWiresOf graph grown c
-    → GainsPorts consumer (grown.first + length grown.wires) more n c d
-    → HasWiresOf graph (longer_range grown more) d
-more-wires graph grown more consumer n c d h g = record {
-  each = λ p own. elim (split-side consumer (grown.first + length grown.wires) more n c d g p own) [
-    | inl old ↦ elim (h.each p old) [
-      | inl a ↦ inl (kept-wire graph.first graph.wires c d g.gains p old a)
-      | inr b ↦ inr (wire-before grown more d p
-          (kept-wire grown.first grown.wires c d g.gains p old b))
-    ]
-    | inr new ↦ inr (wire-behind grown more d p new)
-  ];
-}
+-- the node has the wires of the graph and of its growths
+module _ (graph grown : EdgeRange) (more : List Wire) where
+  -- and so among those of more growths
+  pub longer-wires : (c : PortsPicture) → HasWiresOf graph grown c
+      → HasWiresOf graph (longer_range grown more) c
+  longer-wires c h = record {
+    each = λ p own. elim (h.each p own) [
+      | inl a ↦ inl a
+      | inr b ↦ inr (wire-before grown more c p b)
+    ];
+  }
+
+  -- with the ports that it gets of the last of them
+  pub gained-wires : (consumer : Bool) (n : ℕ) (c d : PortsPicture)
+      → HasWiresOf graph (longer_range grown more) c
+      → GainsPorts consumer (grown.first + length grown.wires) more n c d
+      → HasWiresOf graph (longer_range grown more) d
+  gained-wires consumer n c d h g = record {
+    each = λ p own. elim (split-side consumer (grown.first + length grown.wires) more n c d g p
+        own) [
+          | inl old ↦ elim (h.each p old) [
+            | inl a ↦ inl (kept-wire graph.first graph.wires c d g.gains p old a)
+            | inr b ↦ inr (kept-wire grown.first (grown.wires ++ more) c d g.gains p old b)
+          ]
+          | inr new ↦ inr (wire-behind grown more d p new)
+        ];
+  }

@@ -1,9 +1,24 @@
 -- A node that grew may be prepared again once it has all its new ports.
 use Rattle.node_births.proofs.Imports.{ArePortsOf, AsksToGrow, BoxHolds, BoxPicture, FollowsKept, Gains, grew-list, ports-before, Grew, GrowthForm, Identity, IsAtWork, IsDue, IsSeatOf, IsTrue, Lists, MarkHolds, NodeCell, NodeMark, NodePorts, NodeSeat, arith, cell_ports, follows-same, follows-wide, length, ports_picture, pulled_by, pushed_by, subst, sym, ℕ, ◌∙◌, ◌≡◌}
-use Rattle.node_births.specs.Widened.{HasWidened, IsGrowing}
+use Rattle.node_births.specs.Widened.{GetsPorts, HasWidened, IsGrowing}
+use Rattle.exec_laws.proofs.Growing.{grown-counts}
+use Rattle.exec_laws.specs.Growths.{has_wrong_end, new_wires}
+use Rattle.exec_laws.specs.Prelude.{input_count, output_count}
+use Rattle.exec_table.specs.Seats.{view}
+use Rattle.node_cells.specs.declared.cell.NodeReserve.{NodeReserve}
+use Rattle.port_word.specs.declared.flags.Wire.{Wire}
+use Rattle.std.proofs.Common.{List, [], ap, false, get_or, true, ◌<◌, ◌≢◌}
+use Rattle.std.specs.List.{list_any}
 use Rattle.node_births.proofs.GainLaws.{gains-both, gains-itself}
 use Rattle.exec_laws.specs.declared.edges.DueCall.TheVariants as call
 use Rattle.exec_laws.specs.declared.edges.NodeStatus.TheVariants as node
+
+-- its box was asked by what the graph grows
+pub asked-to-grow : {P : Type 0} (seen : P → BoxPicture) (t : Identity) (c : NodeCell P)
+    → IsAtWork seen t call.Expand c → AsksToGrow (seen c.processor)
+asked-to-grow seen t c h = subst (λ s. MarkHolds s c.mark.last (length c.ports.inputs.items)
+    (length c.ports.outputs.items) (seen c.processor) c.ports.view) h.at_work
+    h.holds.cell.node.mark
 
 module _ {P : Type 0} (seen : P → BoxPicture) (t : Identity) (g : GrowthForm) (c d : NodeCell P)
     (w : HasWidened seen t g c d) where
@@ -23,8 +38,7 @@ module _ {P : Type 0} (seen : P → BoxPicture) (t : Identity) (g : GrowthForm) 
   here = w.growing.asked.holds.cell.node.box
 
   asks : AsksToGrow p
-  asks = subst (λ s. MarkHolds s c.mark.last ins outs p c.ports.view) w.growing.asked.at_work
-      w.growing.asked.holds.cell.node.mark
+  asks = asked-to-grow seen t c w.growing.asked
 
   was : IsTrue q.lawful → IsTrue p.lawful
   was l = sym w.growing.grew.same.lawful ∙ l
@@ -119,3 +133,35 @@ grows-on seen t g c old ports seat was at gains = record {
       (record { holds = was.asked.holds.cell.node.ports; quiet = was.asked.quiet }) was.gains
       gains;
 }
+
+-- with less of its reserve
+pub grows-less : {P : Type 0} (seen : P → BoxPicture) (t : Identity) (g : GrowthForm)
+    (c old : NodeCell P) (r : NodeReserve) → IsGrowing seen t g c old
+    → IsGrowing seen t g c (record old { reserve = r })
+grows-less seen t g c old r was =
+    record { asked = was.asked; grew = was.grew; seat = was.seat; gains = was.gains }
+
+-- with all its ports of a growth: its outputs, then its inputs
+pub gets-widened : {P : Type 0} (seen : P → BoxPicture) (t : Identity) (g : GrowthForm)
+    (c a b d : NodeCell P) (first : ℕ) (places : List ℕ) → a.ports ≡ c.ports → a.seat ≡ c.seat
+    → IsGrowing seen t g c a
+    → ((k : ℕ) → k < length g.specs → get_or places k 0 ≢ (view c.seat).number)
+    → list_any (has_wrong_end (length g.specs)) g.edges ≡ false
+    → GetsPorts seen t false first (new_wires (view c.seat).number places g.edges) a b
+    → GetsPorts seen t true first (new_wires (view c.seat).number places g.edges) b d
+    → HasWidened seen t g c d
+gets-widened seen t g c a b d first places ports seat growing other ends outs ins =
+    let n : ℕ = (view c.seat).number in
+    let more : List Wire = new_wires n places g.edges in
+    let counts = grown-counts n (length g.specs) places [] g.edges other ends in
+    let at : (view a.seat).number ≡ n = ap (λ s. (view s).number) seat in
+    let after : (view b.seat).number ≡ n = outs.gains.gains.number ∙ at in
+    record {
+      growing = ins.grows g c (outs.grows g c growing);
+      inputs = let m = ins.gains.more in let o = ap length outs.gains.others in
+          let s = ap (λ (x : NodePorts). length x.inputs.items) ports in
+          let e = ap (input_count more) after in let k = counts.0 in omega (arith, m, o, s, e, k);
+      outputs = let m = outs.gains.more in let o = ap length ins.gains.others in
+          let s = ap (λ (x : NodePorts). length x.outputs.items) ports in
+          let e = ap (output_count more) at in let k = counts.1 in omega (arith, m, o, s, e, k);
+    }

@@ -5,3 +5,5 @@ pub mod Left
 pub mod TableEdges
 pub mod OwnBirths
 pub mod LeftNodes
+pub mod NotedBirths
+pub mod NextBirths

@@ -1,5 +1,5 @@
 //! An unborn node is born.
-ghost use Rattle.std.specs.Prelude.{OnErr, OnOk};
+ghost use Rattle.std.specs.Prelude.{◌≡◌, OnErr, OnOk};
 ghost use Rattle.exec_table.specs.Seats.{identity_of};
 ghost use Rattle.node_births.specs.Newborn.{IsNewborn};
 ghost use Rattle.node_cells.specs.Stored.{AwaitsBirth};
@@ -21,6 +21,8 @@ pub fn bear<P: Processor>(
     requires { AwaitsBirth P.seen (identity_of table.now) cell.old }
     ensures born { OnOk result (IsNewborn P.seen (identity_of table.now) spec cell.old cell.new) }
     ensures waits { OnErr result (AwaitsBirth P.seen (identity_of table.now) cell.new) }
+    ensures unchanged { OnErr result (P.seen cell.new.processor ≡ P.seen cell.old.processor) }
+    ensures same { OnErr result (cell.new ≡ record cell.old { processor = cell.new.processor }) }
 {
     match cell.processor.load(spec) {
         Ok(()) => {}

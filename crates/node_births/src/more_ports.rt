@@ -92,6 +92,7 @@ fn learn_wire(table: &ExecTable, seat: &mut NodeSeat, e: u32, wire: Wire) -> boo
     requires to { wire.to ≡ (view seat.old).number }
     requires unknown { knows e (view seat.old).state.seen ≡ false }
     ensures seat { IsSeatOf (identity_of table.now) seat.new }
+    ensures number { (view seat.new).number ≡ (view seat.old).number }
     ensures learns { result ≡ true → Learns e wire seat.old seat.new }
 {
     if e >= table.edges {
@@ -109,6 +110,7 @@ fn set_wire(table: &ExecTable, seat: &mut NodeSeat, e: u32, wire: Wire) -> bool
     requires unknown { knows e (view seat.old).state.seen ≡ false }
     requires ready { ready (view seat.old) (step.Wire e wire) ≡ true }
     ensures seat { IsSeatOf (identity_of table.now) seat.new }
+    ensures number { (view seat.new).number ≡ (view seat.old).number }
     ensures learns { result ≡ true → Learns e wire seat.old seat.new }
 {
     match table.wire(seat, e, wire) {
@@ -125,6 +127,7 @@ fn learn_edge(table: &ExecTable, seat: &mut NodeSeat, port: Port, e: u32, wire: 
     requires unknown { knows e (view seat.old).state.seen ≡ false }
     requires may { MayLearn port e wire (view seat.old) }
     ensures seat { IsSeatOf (identity_of table.now) seat.new }
+    ensures number { (view seat.new).number ≡ (view seat.old).number }
     ensures learns { result ≡ true → Learns e wire seat.old seat.new }
 {
     match port {
@@ -149,6 +152,7 @@ fn add_port(
     requires at_port { IsEnd wire (view seat.old).number port }
     requires may_learn { MayLearn port e wire (view seat.old) }
     ensures seat { IsSeatOf (identity_of table.now) seat.new }
+    ensures number { (view seat.new).number ≡ (view seat.old).number }
     ensures ok { OnOk result (GainsPort port e wire
         (ports_picture ports.old seat.old) (ports_picture ports.new seat.new)) }
 {
@@ -212,6 +216,7 @@ fn add_next_port(
     requires may { MayGain (ports_picture ports.old seat.old) }
     requires wires { AreReservedWires (sizes_in table.now) first wires.now }
     ensures seat { IsSeatOf (identity_of table.now) seat.new }
+    ensures number { (view seat.new).number ≡ (view seat.old).number }
     ensures ok { OnOk result (GainsPorts consumer first wires.now 1
         (ports_picture ports.old seat.old) (ports_picture ports.new seat.new)) }
 {
@@ -257,6 +262,7 @@ pub(crate) fn add_ports(
     requires may { MayGain (ports_picture ports.old seat.old) }
     requires wires { AreReservedWires (sizes_in table.now) first wires.now }
     ensures seat { IsSeatOf (identity_of table.now) seat.new }
+    ensures number { (view seat.new).number ≡ (view seat.old).number }
     ensures ok { OnOk result (GainsPorts consumer first wires.now
         (end_count consumer wires.now (view seat.old).number)
         (ports_picture ports.old seat.old) (ports_picture ports.new seat.new)) }

@@ -1,19 +1,49 @@
 //! What a node may still grow by, and whether a growth of it has a flaw.
-ghost use Rattle.std.specs.Prelude.{◌≡◌, ◌≤◌, ◌++◌, Some, None, IfErr, IfOk, length};
+ghost use Rattle.std.specs.Prelude.{◌≡◌, ◌<◌, ◌≤◌, ◌+◌, ◌^◌, ◌==◌, ◌++◌, ℕ, Some, None, IfErr, IfOk, filter, length};
+ghost use Rattle.std.specs.List.{list_any};
 ghost use Rattle.proc_api.specs.Forms.{growth_form};
 ghost use Rattle.exec_laws.specs.Growths.{new_wires, places_for};
 ghost use Rattle.graph_checks.specs.Flaws.{grown_kinds};
 ghost use Rattle.node_cells.specs.Cells.{cell_ports};
 ghost use Rattle.node_cells.specs.Stops.{own_flaw, wires_known};
+ghost use Rattle.node_births.specs.Left.{LosesGrowth, is_left};
 ghost use Rattle.node_ports.specs.Ports.{PortsHold};
 
 use chunk_data::{List, Memory};
 use exec_laws::{Blank, GrowthFlaw};
 use graph_checks::{GrownGraph, check_growth_at, own_wires};
-use node_cells::NodeCell;
+use node_cells::{NodeCell, NodeReserve};
 use port_word::Wire;
 use proc_api::{Growth, Processor};
 use std::alloc::Global;
+
+fn is_among(places: &[u32], node: u32) -> bool
+    ensures { result ≡ list_any (λ (k : ℕ). k == node) places.now }
+{
+    places.iter().any(|k| *k == node)
+}
+
+/// Removes the blanks that lie at the places.
+fn remove_blanks(blanks: &mut Vec<Blank>, places: &[u32])
+    ensures { blanks.new.items ≡ filter (is_left places.now) blanks.old.items }
+{
+    blanks.retain(
+        |b| -> bool
+            ensures { result ≡ is_left places.entry.now b.now }
+        { !is_among(places, b.node) },
+    );
+}
+
+/// The node of the reserve grew by new nodes at these places and by so many edges.
+pub fn take_growth(reserve: &mut NodeReserve, places: &[u32], edges: u32)
+    requires room { edges ≤ reserve.old.edges }
+    requires fits { reserve.old.next_edge + reserve.old.edges < 2 ^ 32 }
+    ensures { LosesGrowth places.now edges reserve.old reserve.new }
+{
+    remove_blanks(&mut reserve.blanks, places);
+    reserve.next_edge += edges;
+    reserve.edges -= edges;
+}
 
 fn copy_blanks(alloc: Global, blanks: &[Blank]) -> Result<Vec<Blank>, Memory>
     ensures { IfOk result (λ copy. copy.items ≡ blanks.now) }

@@ -4,7 +4,7 @@ ghost use Rattle.std.specs.Prelude.{◌≡◌, true, IfErr, IfOk, OnOk};
 ghost use Rattle.proc_api.specs.Forms.{growth_form};
 ghost use Rattle.exec_laws.specs.Names.{StaysBox};
 ghost use Rattle.exec_laws.specs.declared.edges.DueCall.TheVariants.{Expand};
-ghost use Rattle.exec_table.specs.Seats.{IsSeatOf, identity_of, sizes_in};
+ghost use Rattle.exec_table.specs.Seats.{IsSeatOf, identity_of, sizes_in, view};
 ghost use Rattle.node_cells.specs.Cells.{cell_ports};
 ghost use Rattle.node_cells.specs.Turns.{IsAtWork, IsStopped};
 ghost use Rattle.node_cells.specs.declared.stop_cause.StopCause.TheVariants.{Fault};
@@ -56,6 +56,8 @@ pub fn get_ports<P: Processor>(
     ensures seat { IsSeatOf (identity_of table.now) cell.new.seat }
     ensures processor { cell.new.processor ≡ cell.old.processor }
     ensures mark { cell.new.mark ≡ cell.old.mark }
+    ensures number { (view cell.new.seat).number ≡ (view cell.old.seat).number }
+    ensures reserve { cell.new.reserve ≡ cell.old.reserve }
     ensures ok { OnOk result (GetsPorts P.seen (identity_of table.now) consumer first wires.now
         cell.old cell.new) }
 {

@@ -185,9 +185,9 @@ module _ (s : Sizes) (n : ℕ) (inside : n < s.nodes) (g : IsGraphOfNodes s.node
 
   one-edge : (e f : ℕ) (p : Port) → HasEdge s.wires n p e → HasEdge s.wires n p f → e ≡ f
   one-edge e f (Input i) a b = g.graph.so_far.inputs_once e f a.in_range b.in_range
-      (a.at_port.0 ∙ sym b.at_port.0) (a.at_port.1 ∙ sym b.at_port.1)
+      (a.at_port.0 ∙ sym b.at_port.0, a.at_port.1 ∙ sym b.at_port.1)
   one-edge e f (Output o) a b = g.graph.so_far.outputs_once e f a.in_range b.in_range
-      (a.at_port.0 ∙ sym b.at_port.0) (a.at_port.1 ∙ sym b.at_port.1)
+      (a.at_port.0 ∙ sym b.at_port.0, a.at_port.1 ∙ sym b.at_port.1)
 
   own-port : (e : ℕ) (p : Port) → HasEdge s.wires n p e → is_own_port c p
   own-port e (Input i) h = subst (λ k. i < k) (sym ins.edges_len)

@@ -139,9 +139,9 @@ module _ (count : ℕ) (wires : List Wire) (table_edge : ℕ → ℕ) (b : Board
       where
         one-edge : (p : Port) {f : ℕ} → HasEdge wires n p f → HasEdge wires n p e → f ≡ e
         one-edge (Input i) a b = s.graph.graph.so_far.inputs_once _ e a.in_range b.in_range
-            (a.at_port.0 ∙ sym b.at_port.0) (a.at_port.1 ∙ sym b.at_port.1)
+            (a.at_port.0 ∙ sym b.at_port.0, a.at_port.1 ∙ sym b.at_port.1)
         one-edge (Output o) a b = s.graph.graph.so_far.outputs_once _ e a.in_range b.in_range
-            (a.at_port.0 ∙ sym b.at_port.0) (a.at_port.1 ∙ sym b.at_port.1)
+            (a.at_port.0 ∙ sym b.at_port.0, a.at_port.1 ∙ sym b.at_port.1)
 
     -- it is that of the port
     edge-is : edge_of (at n) p ≡ d

@@ -1,7 +1,7 @@
 -- What stops the run of all at a node, and what the node keeps then.
 use Rattle.std.specs.Prelude.{Err, IsTrue, List, None, Ok, Option, Result, Some, true, ⊤, ◌≡◌}
 use Rattle.exec_laws.specs.Growths.{Left}
-use Rattle.exec_laws.specs.Names.{KeepsFault}
+use Rattle.exec_laws.specs.Names.{IsBorn, KeepsFault}
 use Rattle.exec_laws.specs.Prelude.{BoxPicture, GrowthForm, MayGrow}
 use Rattle.exec_laws.specs.declared.growth.GrowthFlaw.{GrowthFlaw}
 use Rattle.graph_checks.specs.Flaws.{flaw_over}
@@ -27,10 +27,11 @@ abbrev pub own_flaw : {P : Type 0} → NodeCell P → GrowthForm → Option Grow
 own_flaw c g =
     flaw_over c.reserve.rank c.reserve.nodes (wires_known c) (left_in c.reserve) c.seat.node g
 
--- the node's box was asked by what the graph grows, and keeps a growth with that flaw; a lawful
--- box may give it
+-- the box of a born node was asked by what the graph grows, and keeps a growth with that flaw; a
+-- lawful box may give it
 pub record KeepsFlaw {P : Type 0} (seen : P → BoxPicture) (f : GrowthFlaw) (c : NodeCell P)
     : Type 0 where
+  pub born : IsBorn (seen c.processor)
   pub growth : GrowthForm
   pub kept : (seen c.processor).growth ≡ Some growth
   pub acted : (seen c.processor).notes.acted ≡ true

@@ -1,4 +1,4 @@
-use Rattle.node_births.proofs.Imports.{GainsPorts, ap, arith, ports_picture, subst, view, ◌≡◌}
+use Rattle.node_births.proofs.Imports.{GainsPorts, ap, arith, ports_picture, refl, subst, view, ◌∙◌, ◌≡◌}
 use Rattle.node_births.specs.MorePorts.{end_count}
 use Rattle.node_births.proofs.GainLaws.{no-ports, ports-both}
 use Rattle.node_births.proofs.more_ports.add_ports.Goals as goal
@@ -6,6 +6,7 @@ use Rattle.node_births.proofs.more_ports.add_ports.Goals as goal
 pub loop-port-init : goal.loop-port-init
 loop-port-init c = record {
   seat = c.requires.seat;
+  number = refl;
   gains = no-ports c.args.consumer c.args.first c.args.wires.now
       (ports_picture c.args.ports.now c.args.seat.now) c.requires.may;
 }
@@ -16,6 +17,7 @@ add_next_port-requires-clause-may c = c.loop-port.invariant.gains.gains.may
 pub loop-port-preserved : goal.loop-port-preserved
 loop-port-preserved c = record {
   seat = c.add_next_port.ensures.seat;
+  number = c.add_next_port.ensures.number ∙ c.loop-port.invariant.number;
   gains = ports-both c.args.consumer c.args.first c.args.wires.now c.loop-port._port 1
       (ports_picture c.args.ports.now c.args.seat.now)
       (ports_picture c.loop-port.ports c.loop-port.seat)
