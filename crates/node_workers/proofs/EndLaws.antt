@@ -1,19 +1,31 @@
 -- All cells, before the run and after it.
 use Rattle.std.proofs.Common.{List, None, [], ap, length, map, refl, slice_index_or, subst, suc, sym, zero, ℕ, ◌∙◌, ◌∷◌, ◌≡◌}
-use Rattle.std.proofs.lemmas.List.{length-map}
 use mathlib.Core.Option.{some, some-injective, some-ne-none}
 use lib.ListN.{get_elem?}
-use Rattle.exec_laws.specs.Prelude.{BoxPicture}
+use Rattle.atomic_table.proofs.Lists.{at_map}
+use Rattle.atomic_table.specs.Seated.{TableId}
+use Rattle.exec_laws.specs.Births.{Birth}
+use Rattle.exec_laws.specs.Prelude.{BoxPicture, Reserve}
 use Rattle.exec_table.specs.Seats.{Identity}
+use Rattle.node_births.proofs.StandLaws.{left-itself, stands-new}
+use Rattle.node_births.specs.NotedBirths.{births_by}
+use Rattle.node_births.specs.OwnBirths.{IsBoxLeft, StandsAmong}
+use Rattle.node_cells.specs.Cells.{cell_ports}
+use Rattle.node_cells.specs.Visits.{LiesAs}
 use Rattle.node_cells.specs.declared.cell.NodeCell.{NodeCell}
 use Rattle.node_cells.proofs.VisitLaws.{seat-as}
-use Rattle.node_workers.proofs.VisitLaws.{leave-itself}
-use Rattle.node_workers.specs.Ended.{AreEnded, AreNamed, AreStored, named_by, no_node}
-use Rattle.node_births.specs.Left.{NamedNode}
-use Rattle.node_workers.specs.Named.{CellFits, VisitsLeave, named_node}
+use Rattle.node_workers.specs.Ended.{AreNamed, AreStored, named_by, no_node}
+use Rattle.node_births.specs.Left.{NamedNode, reserve_form}
+use Rattle.node_workers.specs.Named.{CellFits, IsNoteFor, births_in, first_edge_in, named_node}
+use Rattle.node_workers.specs.Names.{Names}
+use Rattle.node_workers.specs.Notes.{HaveFirstNotes, IsFirstNote}
 use Rattle.node_workers.specs.Rooms.{as_ended, as_named, node_cell}
+use Rattle.node_workers.specs.declared.named_cell.CellNote.{CellNote}
+use Rattle.node_workers.specs.declared.named_cell.CellNote.TheVariants as note
+use Rattle.node_workers.specs.declared.named_cell.EndedCell.{EndedCell}
 use Rattle.node_workers.specs.declared.named_cell.NamedCell.{NamedCell}
 use Rattle.task_queue.specs.Values.{AllFit}
+unfoldable use Rattle.proc_api.specs.Reserves.{reserve_at}
 
 fit-map : {A B : Type 0} (f : A → B) (Q : B → ℕ → Type 0) (xs : List A)
     → ((n : ℕ) (a : A) → get_elem? xs n ≡ some a → Q (f a) n) → AllFit Q (map f xs)
@@ -34,6 +46,22 @@ pub node_cells-named : {P : Type 0} (J : Type 0) (cells : List (NodeCell P))
 node_cells-named J [] = refl
 node_cells-named J (c ∷ cs) = ap (λ l. c ∷ l) (node_cells-named J cs)
 
+-- ---- the notes before the run
+
+module _ (notes : TableId) (reserves : List Reserve) (n : ℕ) where
+  note-for : (x : CellNote) → IsFirstNote notes reserves (length reserves) n x
+      → IsNoteFor notes reserves n x
+  note-for note.Bare h = h
+  note-for (note.Own x) h = (h.0, h.1, h.2)
+  note-for (note.Copied x) h = absurd h
+
+  no-births : (x : CellNote) → IsFirstNote notes reserves (length reserves) n x
+      → births_in reserves x ≡ []
+  unfolding reserve_at
+  no-births note.Bare h = refl
+  no-births (note.Own x) h = ap (births_by (reserve_at reserves x.reserve).node) h.3
+  no-births (note.Copied x) h = absurd h
+
 module _ {P : Type 0} (seen : P → BoxPicture) where
   -- each cell is what it is named
   pub named-themselves : (cells : List (NodeCell P))
@@ -41,27 +69,57 @@ module _ {P : Type 0} (seen : P → BoxPicture) where
   named-themselves cells = index-map (named_node seen) cells
 
   -- stored cells fit their places
-  pub stored-fit : {J : Type 0} (t : Identity) (named : ℕ → NamedNode) (cells : List (NodeCell P))
-      → AreStored seen t cells → AreNamed seen named cells
-      → AllFit (λ (d : NamedCell P J) n. CellFits t named seen n d.cell d.stopped)
-      (map as_named cells)
-  stored-fit {J} t named cells h same = fit-map as_named
-      (λ (d : NamedCell P J) n. CellFits t named seen n d.cell d.stopped) cells (λ n c at. record {
-        seat = seat-as seen t c.mark.state c (h.stored n c at);
-        number = h.numbers n c at;
-        places = h.places n c at;
-        reserve = sym (ap (λ m. m.reserve) (same n c at));
-        box = subst (λ m. VisitsLeave None m.box (seen c.processor)) (sym (same n c at))
-            (leave-itself _);
-        lies = h.stored n c at;
-      })
+  pub stored-fit : {J : Type 0} (x : Names) (cells : List (NodeCell P))
+      (named : List (NamedCell P J)) → AreStored seen x.identity cells
+      → AreNamed seen x.node cells
+      → HaveFirstNotes x.notes x.identity.sizes.reserves (length x.identity.sizes.reserves) cells
+      named
+      → AllFit (λ (d : NamedCell P J) n. CellFits x seen n d.cell d.stopped d.note) named
+  stored-fit {J} x cells named h same first n d at =
+      let z = x.identity.sizes in let c = d.cell in let own = first.each n d at in
+      let here : get_elem? cells n ≡ some c =
+      subst (λ l. get_elem? l n ≡ some c) first.same (at_map node_cell named n d at) in
+      let none = sym (no-births x.notes z.reserves n d.note own.note_is) in
+      let stored = h.stored n c here in
+      let seat = seat-as seen x.identity c.mark.state c stored in record {
+        seat = seat;
+        number = h.numbers n c here;
+        note = note-for x.notes z.reserves n d.note own.note_is;
+        stands = λ _. subst (λ (m : NamedNode). StandsAmong z.wires
+            (first_edge_in z.reserves d.note) (births_in z.reserves d.note) n m.reserve
+            (cell_ports c) (reserve_form c.reserve) (seen c.processor)) (sym (same n c here))
+            (subst (λ (b : List Birth). StandsAmong z.wires (first_edge_in z.reserves d.note) b n
+            (reserve_form c.reserve) (cell_ports c) (reserve_form c.reserve) (seen c.processor))
+            none (stands-new z.wires _ n (reserve_form c.reserve) (cell_ports c)
+            (seen c.processor) (sym seat.number ∙ h.numbers n c here) (h.places n c here)));
+        box = subst (λ o. IsBoxLeft o (births_in z.reserves d.note) n (x.node n).box
+            (seen c.processor)) (sym own.going)
+            (subst (λ (m : NamedNode). IsBoxLeft None (births_in z.reserves d.note) n m.box
+            (seen c.processor)) (sym (same n c here))
+            (subst (λ (b : List Birth). IsBoxLeft None b n (seen c.processor) (seen c.processor))
+            none (left-itself n (seen c.processor))));
+        lies = subst (λ o. LiesAs seen x.identity o c) (sym own.going) stored;
+      }
+
+  -- so do the cells that a run is to begin with
+  pub named-fit : {J : Type 0} (x : Names) (t : Identity) (notes : TableId)
+      (reserves : List Reserve) (cells : List (NodeCell P)) (named : List (NamedCell P J))
+      → t ≡ x.identity → notes ≡ x.notes → reserves ≡ x.identity.sizes.reserves
+      → AreStored seen t cells
+      → AreNamed seen x.node cells
+      → HaveFirstNotes notes reserves (length reserves) cells named
+      → AllFit (λ (d : NamedCell P J) n. CellFits x seen n d.cell d.stopped d.note) named
+  named-fit {J} x t notes reserves cells named same noted of stored are first =
+      stored-fit x cells named (subst (λ t. AreStored seen t cells) same stored) are
+      (subst (λ (r : List Reserve). HaveFirstNotes x.notes r (length r) cells named) of
+      (subst (λ i. HaveFirstNotes i reserves (length reserves) cells named) noted first))
 
   -- what lay on the shelf is as it is to end
-  pub cleared-ended : {J : Type 0} (t : Identity) (named : ℕ → NamedNode) (count : ℕ)
-      (cells : List (NamedCell P J)) → length cells ≡ count
-      → AllFit (λ d n. CellFits t named seen n d.cell d.stopped) cells
-      → AreEnded seen t named count (map as_ended cells)
-  cleared-ended t named count cells many fit = record {
-    many = length-map cells as_ended ∙ many;
-    each = fit-map as_ended (λ d n. CellFits t named seen n d.cell d.stopped) cells fit;
-  }
+  pub cleared-each : {J : Type 0} (x : Names) (cells : List (NamedCell P J))
+      (ended : List (EndedCell P)) → ended ≡ map as_ended cells
+      → AllFit (λ d n. CellFits x seen n d.cell d.stopped d.note) cells
+      → (n : ℕ) (d : EndedCell P) → get_elem? ended n ≡ some d
+      → CellFits x seen n d.cell d.stopped d.note
+  cleared-each x cells ended is fit n d at =
+      fit-map as_ended (λ d n. CellFits x seen n d.cell d.stopped d.note) cells fit n d
+      (subst (λ l. get_elem? l n ≡ some d) is at)

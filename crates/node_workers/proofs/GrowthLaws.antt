@@ -1,6 +1,7 @@
 -- What a growth leaves of a node that names nothing by it, or whose growth has a flaw.
-use Rattle.std.proofs.Common.{IsTrue, List, Option, Some, [], ap, arith, length, refl, subst, sym, ℕ, ◌<◌, ◌∙◌, ◌∷◌, ◌≡◌}
+use Rattle.std.proofs.Common.{IsTrue, List, None, Option, Some, [], ap, arith, length, subst, sym, ℕ, ◌<◌, ◌∙◌, ◌∷◌, ◌≡◌}
 use Rattle.std.proofs.lemmas.List.Sums.{count_by-le-length}
+use Rattle.exec_laws.proofs.Nodes.{not-blank}
 use Rattle.exec_laws.specs.Names.{Grew, StaysBox}
 use Rattle.exec_laws.specs.Prelude.{BoxPicture, GrowthForm, MayGrow, Spec}
 use Rattle.exec_laws.specs.declared.edges.NodeMark.{NodeMark}
@@ -13,6 +14,12 @@ use Rattle.node_cells.specs.Stops.{GrowthStays}
 use Rattle.node_cells.specs.Turns.{IsDue, Stays}
 use Rattle.node_cells.specs.declared.cell.NodeCell.{NodeCell}
 use Rattle.node_cells.specs.declared.stop_cause.StopCause.{StopCause}
+use Rattle.node_workers.proofs.VisitLaws.{fits-knows, turns-know}
+use Rattle.node_workers.specs.Births.{HasGrown}
+use Rattle.node_workers.specs.Growths.{IsAsked}
+use Rattle.node_workers.specs.Names.{Names}
+use Rattle.node_workers.specs.declared.growth.FlawlessGrowth.{FlawlessGrowth}
+use Rattle.node_workers.specs.declared.named_cell.CellNote.{CellNote}
 use Rattle.node_ports.specs.Actions.{SamePorts}
 use Rattle.proc_api.specs.Ports.{is_me}
 use Rattle.proc_api.specs.Prelude.{Files, paths_in}
@@ -66,3 +73,15 @@ module _ {P : Type 0} (seen : P → BoxPicture) (t : Identity) (g : GrowthForm) 
         (same-ports (cell_ports c));
     reserve = ap (λ (x : NodeCell P). x.reserve) same;
   }
+
+-- one that grew by nothing has grown
+pub nothing-grown : {P : Type 0} {seen : P → BoxPicture} {x : Names} {n : ℕ} {r : FlawlessGrowth}
+    {a d : NodeCell P} {own : CellNote} (h : IsAsked x seen n r a own) → IsDue seen x.identity d
+    → Stays seen None h.stored d → d.processor ≡ a.processor → HasGrown x seen n d own
+nothing-grown {P} {seen} {x} {n} {r} {a} {d} {own} h due stays same = record {
+  knows = turns-know seen x n h.stored d own (fits-knows seen x n h.stored own h.fits) stays
+      (λ none. absurd (not-blank (seen h.stored.processor).spec
+      h.at_work.holds.cell.node.box.running.loaded none)) due.holds.cell.seat;
+  due = due;
+  acted = ap (λ q. (seen q).notes.acted) same ∙ h.flawless.acted;
+}

@@ -1,4 +1,11 @@
+pub mod SentNotes
 pub mod GrowthLaws
 pub mod VisitLaws
 pub mod EndLaws
+pub mod NoteLaws
 pub mod NewCells
+pub mod NewNodeLaws
+pub mod BirthLaws
+pub mod GrowthVisits
+pub mod GrowerLaws
+pub mod GrowerOutputs

@@ -1,73 +1,107 @@
 -- What a worker's visit leaves of a cell.
-use Rattle.std.proofs.Common.{List, None, Option, ap, refl, subst, sym, ◌∙◌, ◌≡◌, ℕ}
-use Rattle.exec_laws.proofs.Acting.{stays-both, stays-itself}
+use Rattle.std.proofs.Common.{None, Option, ap, refl, subst, sym, ◌∙◌, ◌≡◌, ℕ}
 use Rattle.exec_laws.specs.Prelude.{BoxPicture}
 use Rattle.exec_laws.specs.declared.edges.NodeStatus.{NodeStatus}
-use Rattle.exec_table.specs.Seats.{Identity}
-use Rattle.node_cells.proofs.StayLaws.{growth-both, same-places}
+use Rattle.exec_table.specs.Seats.{Identity, IsSeatOf}
+use Rattle.node_births.proofs.StandLaws.{left-both, stands-still}
+use Rattle.node_births.specs.Left.{reserve_form}
+use Rattle.node_births.specs.OwnBirths.{IsBoxLeft, StandsAmong}
 use Rattle.node_cells.specs.Cells.{cell_ports}
-use Rattle.node_cells.specs.Ends.{HasPlaces}
+use Rattle.node_cells.specs.Turns.{Stays}
 use Rattle.node_cells.proofs.VisitLaws.{lies-seat}
 use Rattle.std.specs.Result.{result_err, result_unwrap_or}
-use Rattle.node_cells.specs.Visits.{LeavesCell, run_end_of}
+use Rattle.node_cells.specs.Visits.{LeavesCell, LiesAs, Visits, run_end_of}
 use Rattle.node_cells.specs.declared.cell.NodeCell.{NodeCell}
 use Rattle.node_cells.specs.declared.stop_cause.StopCause.{StopCause}
+use Rattle.node_cells.specs.declared.stop_cause.StopCause.TheVariants as cause
 use Rattle.node_cells.specs.declared.node_run.RunEnd.{RunEnd}
 use Rattle.node_cells.specs.declared.node_run.RunEnd.TheVariants as run
-use Rattle.node_births.specs.Left.{NamedNode, reserve_form}
-use Rattle.node_workers.specs.Named.{CellFits, VisitsLeave}
-use Rattle.node_workers.specs.Visits.{VisitsCell, VisitsStored, visit_end}
+use Rattle.node_workers.specs.Growths.{CellKnows}
+use Rattle.node_workers.specs.Named.{CellFits, births_in, first_edge_in}
+use Rattle.node_workers.specs.Names.{Names}
+use Rattle.node_workers.specs.Visits.{VisitsCell, visit_end}
+use Rattle.node_workers.specs.declared.named_cell.CellNote.{CellNote}
+use Rattle.std.proofs.lemmas.Option.{none-some}
 use Rattle.std.specs.Prelude.{Err, IfOk, Ok, Result}
 use Rattle.task_queue.specs.declared.queue.TaskQueue.{TaskQueue}
 use Rattle.task_queue.specs.declared.tasks.WorkerTasks.{WorkerTasks}
 
-pub leave-itself : (p : BoxPicture) → VisitsLeave None p p
-leave-itself p = record {
-  born = λ _. stays-itself p;
-  unborn = λ _. refl;
-  growth = λ _. refl;
-}
+module _ {P : Type 0} (seen : P → BoxPicture) (x : Names) where
+  pub fits-knows : (n : ℕ) (c : NodeCell P) (own : CellNote) → CellFits x seen n c None own
+      → CellKnows x seen n c own
+  fits-knows n c own h = record {
+    seat = h.seat;
+    number = h.number;
+    note = h.note;
+    stands = h.stands (none-some cause.Memory);
+    box = h.box;
+  }
 
-module _ {P : Type 0} (seen : P → BoxPicture) (t : Identity) (named : ℕ → NamedNode) where
-  visit-fits : (n : ℕ) (a b : NodeCell P) (o : Option StopCause) → CellFits t named seen n a None
-      → LeavesCell seen t o a b → CellFits t named seen n b o
-  visit-fits n a b o h left =
-      let s = left.stays in let seat = lies-seat seen t o b left.lies in record {
-        seat = seat;
-        number = seat.number ∙ (s.ports.number ∙ (sym h.seat.number ∙ h.number));
-        places = subst (λ (l : List ℕ × List ℕ). HasPlaces t.sizes.wires (λ e. e) n l.0 l.1
-            (cell_ports b)) (λ j. (sym s.ports.inputs j, sym s.ports.outputs j))
-            (same-places t.sizes.wires (λ e. e) n _ _ _ _ s.ports h.places);
-        reserve = ap reserve_form s.reserve ∙ h.reserve;
-        box = record {
-          born = λ x. stays-both (named n).box (seen a.processor) (seen b.processor) (h.box.born x)
-              s.box;
-          unborn = λ none. let same = h.box.unborn none in
-              ap (λ c. seen c.processor) (left.blank (ap (λ p. p.spec) same ∙ none)) ∙ same;
-          growth = growth-both o (named n).box (seen a.processor) (seen b.processor)
-              s.box.same.lawful h.box.growth s.growth;
-        };
-        lies = left.lies;
-      }
+  -- turns leave what a cell tells, whose box was born
+  module _ (n : ℕ) (a b : NodeCell P) (o : Option StopCause) (own : CellNote)
+      (h : CellKnows x seen n a own) (s : Stays seen o a b)
+      (blank : (seen a.processor).spec ≡ None → seen b.processor ≡ seen a.processor) where
+    still-box : IsBoxLeft o (births_in x.identity.sizes.reserves own) n (x.node n).box
+        (seen b.processor)
+    still-box = left-both o _ n (x.node n).box (seen a.processor) (seen b.processor) s.box
+        s.growth blank h.box
+
+    still-stands : StandsAmong x.identity.sizes.wires (first_edge_in x.identity.sizes.reserves own)
+        (births_in x.identity.sizes.reserves own) n (x.node n).reserve (cell_ports b)
+        (reserve_form b.reserve) (seen b.processor)
+    still-stands = stands-still x.identity.sizes.wires _ _ n (x.node n).reserve _ _ _ _ _ _
+        s.ports (ap reserve_form s.reserve) (λ born. rw s.box.same.spec at born) h.stands
+
+    still-number : (seat : IsSeatOf x.identity b.seat) → b.seat.node ≡ n
+    still-number seat = seat.number ∙ (s.ports.number ∙ (sym h.seat.number ∙ h.number))
+
+    -- it fits its place as it lies then
+    pub turns-fit : LiesAs seen x.identity o b → CellFits x seen n b o own
+    turns-fit lies = let seat = lies-seat seen x.identity o b lies in record {
+      seat = seat;
+      number = still-number seat;
+      note = h.note;
+      stands = λ _. still-stands;
+      box = still-box;
+      lies = lies;
+    }
+
+  -- turns that don't stop the run leave what it tells
+  pub turns-know : (n : ℕ) (a b : NodeCell P) (own : CellNote) → CellKnows x seen n a own
+      → Stays seen None a b
+      → ((seen a.processor).spec ≡ None → seen b.processor ≡ seen a.processor)
+      → IsSeatOf x.identity b.seat → CellKnows x seen n b own
+  turns-know n a b own h s blank seat = record {
+    seat = seat;
+    number = still-number n a b None own h s blank seat;
+    note = h.note;
+    stands = still-stands n a b None own h s blank;
+    box = still-box n a b None own h s blank;
+  }
+
+  visit-fits : (n : ℕ) (a b : NodeCell P) (o : Option StopCause) (own : CellNote)
+      → CellFits x seen n a None own → LeavesCell seen x.identity o a b → CellFits x seen n b o own
+  visit-fits n a b o own h left = turns-fit n a b o own (fits-knows n a own h) left.stays
+      (λ none. ap (λ c. seen c.processor) (left.blank none)) left.lies
 
   -- a cell that was visited fits where it fitted
-  pub visited-fits : (u : Identity) (n : ℕ) (a b : NodeCell P) (was is o : Option StopCause) → u ≡ t
-      → was ≡ None → is ≡ o → CellFits t named seen n a was → LeavesCell seen u o a b
-      → CellFits t named seen n b is
-  visited-fits u n a b was is o same none now h left =
-      subst (λ x. CellFits t named seen n b x) (sym now)
-      (visit-fits n a b o (subst (λ x. CellFits t named seen n a x) none h)
+  pub visited-fits : (u : Identity) (n : ℕ) (a b : NodeCell P) (was is o : Option StopCause)
+      (own : CellNote) → u ≡ x.identity → was ≡ None → is ≡ o → CellFits x seen n a was own
+      → LeavesCell seen u o a b → CellFits x seen n b is own
+  visited-fits u n a b was is o own same none now h left =
+      subst (λ s. CellFits x seen n b s own) (sym now)
+      (visit-fits n a b o own (subst (λ s. CellFits x seen n a s own) none h)
       (subst (λ z. LeavesCell seen z o a b) same left))
 
 module _ {P : Type 0} (seen : P → BoxPicture) (t : Identity) (q : TaskQueue) (a b : NodeCell P)
     (before after : WorkerTasks) where
   -- a cell at which nobody had stopped the run was visited
   pub visits-cell : (was is o : Option StopCause) → was ≡ None → is ≡ o
-      → VisitsStored seen t q o a.mark.state a b before after
+      → Visits seen t q o a b before after
       → VisitsCell seen t q was is a b before after
   visits-cell was is o none now h =
       subst (λ x. VisitsCell seen t q x is a b before after) (sym none)
-      (subst (λ x. VisitsStored seen t q x a.mark.state a b before after) (sym now) h)
+      (subst (λ x. Visits seen t q x a b before after) (sym now) h)
 
 pub ends-visit : (r : Result RunEnd StopCause) (s : NodeStatus) → IfOk r (λ e. e ≡ run_end_of s)
     → result_unwrap_or r run.Rests ≡ visit_end (result_err r) s

@@ -1,6 +1,11 @@
+pub mod Names
 pub mod Named
 pub mod Visits
 pub mod Workers
 pub mod Rooms
+pub mod Notes
 pub mod Ended
 pub mod Runs
+pub mod NewNodes
+pub mod Growths
+pub mod Births

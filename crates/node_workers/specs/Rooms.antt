@@ -4,6 +4,7 @@ use Rattle.std.specs.VecDeque.{deque_capacity}
 use Rattle.std.specs.declared.alloc.Global.{Global}
 use Rattle.std.specs.declared.collections.VecDeque.{VecDeque}
 use Rattle.node_cells.specs.declared.cell.NodeCell.{NodeCell}
+use Rattle.node_workers.specs.declared.named_cell.CellNote.TheVariants as note
 use Rattle.node_workers.specs.declared.named_cell.EndedCell.{EndedCell}
 use Rattle.node_workers.specs.declared.named_cell.NamedCell.{NamedCell}
 use Rattle.node_workers.specs.declared.rooms.EndRooms.{EndRooms}
@@ -32,12 +33,12 @@ module _ {P J : Type 0} where
     pub workers_room : IsRoomFor workers r.workers
     pub at_end : HasEndRoom nodes workers r.at_end
 
-  -- a cell at which nobody stopped the run
+  -- a cell at which nobody stopped the run, without a note
   abbrev pub as_named : NodeCell P → NamedCell P J
-  as_named c = record { cell = c; stopped = None; names = record {} }
+  as_named c = record { cell = c; note = note.Bare; stopped = None; names = record {} }
 
   abbrev pub node_cell : NamedCell P J → NodeCell P
   node_cell d = d.cell
 
   abbrev pub as_ended : NamedCell P J → EndedCell P
-  as_ended d = record { cell = d.cell; stopped = d.stopped }
+  as_ended d = record { cell = d.cell; note = d.note; stopped = d.stopped }

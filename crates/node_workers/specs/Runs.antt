@@ -21,8 +21,8 @@ pub record MayRunCells {P : Type 0} (seen : P → BoxPicture) (t : Identity) (ro
   pub spare : HasSpare t workers root
   pub stored : AreStored seen t cells
 
--- What a run gives back: the table and its root, so many workers, each of which saw the end, and
--- the cells of so many nodes.
+-- What a run gives back: the table and its root, so many workers, each of which saw the end, the
+-- cells of so many nodes, and the notes that these have.
 pub record RunHasEnded {P : Type 0} (seen : P → BoxPicture) (t : Identity)
     (named : ℕ → NamedNode) (table : ExecTable) (workers nodes : ℕ) (r : Ended P) : Type 0 where
   pub same_table : r.table ≡ table
@@ -30,6 +30,7 @@ pub record RunHasEnded {P : Type 0} (seen : P → BoxPicture) (t : Identity)
   pub seats : All (WorkerHasEnded (identity_of table)) r.workers.items
   pub one_each : length r.workers.items ≡ workers
   pub ended : AreEnded seen t named nodes r.cells.items
+  pub noted : r.notes.table.shared.table_id ≡ ended.notes
 
 -- what is given back of a run that didn't start: all is as it was
 pub record IsAsItWas {P : Type 0} (table : ExecTable) (root : RootSeat)

@@ -5,13 +5,11 @@ use Rattle.atomic_table.specs.declared.shared.Seat.{Seat}
 use Rattle.core_laws.specs.Steps.{nothing}
 use Rattle.core_laws.specs.declared.types.Step.TheVariants as step
 use Rattle.exec_laws.specs.Prelude.{BoxPicture}
-use Rattle.exec_laws.specs.declared.edges.DueCall.TheVariants as call
 use Rattle.exec_laws.specs.declared.edges.NodeStatus.{NodeStatus}
-use Rattle.exec_laws.specs.declared.edges.NodeStatus.TheVariants as node
 use Rattle.exec_table.specs.Seats.{Identity, IsWorkerOf, WorkerDoes}
 use Rattle.exec_table.specs.declared.rule.WorkerSeat.{WorkerSeat}
 use Rattle.node_cells.specs.Stops.{StopHolds}
-use Rattle.node_cells.specs.Visits.{RunsDue, VisitsFrom, run_end_of}
+use Rattle.node_cells.specs.Visits.{RunsDue, Visits, run_end_of}
 use Rattle.node_cells.specs.declared.cell.NodeCell.{NodeCell}
 use Rattle.node_cells.specs.declared.node_run.RunEnd.{RunEnd}
 use Rattle.node_cells.specs.declared.node_run.RunEnd.TheVariants as run
@@ -47,36 +45,22 @@ abbrev pub visit_end : Option StopCause → NodeStatus → RunEnd
 visit_end None s = run_end_of s
 visit_end (Some c) s = run.Rests
 
+-- what came of a growth of a node
 module _ {P : Type 0} (seen : P → BoxPicture) (t : Identity) (q : TaskQueue)
     (o : Option StopCause) where
-  -- the node grew, for which its box acted, and then took turns; or its growth stopped the run
+  -- the node grew, for which its box acted, its new nodes were offered, and it took turns; or its
+  -- growth stopped the run
   pub data GrowsOn (new : NodeCell P) (before after : WorkerTasks) : Type 0 where
-    grows_turns : (grown : NodeCell P) → (seen grown.processor).notes.acted ≡ true
-        → RunsDue seen t q o grown new before after → GrowsOn new before after
+    grows_turns : (grown : NodeCell P) (between : WorkerTasks)
+        → (seen grown.processor).notes.acted ≡ true → OffersNumbers q before between
+        → RunsDue seen t q o grown new between after → GrowsOn new before after
     grows_once : (s : StopCause) → o ≡ Some s → StopHolds seen s new → after ≡ before
         → GrowsOn new before after
-
-  -- a node by which the graph is to grow grows, and each other one is visited
-  abbrev pub VisitsStored : NodeStatus → (old new : NodeCell P) → (before after : WorkerTasks)
-      → Type 0
-  VisitsStored node.Resting old new before after =
-      VisitsFrom seen t q o node.Resting old new before after
-  VisitsStored node.Due old new before after = VisitsFrom seen t q o node.Due old new before after
-  VisitsStored (node.AtWork call.Work) old new before after =
-      VisitsFrom seen t q o (node.AtWork call.Work) old new before after
-  VisitsStored (node.AtWork call.Schedule) old new before after =
-      VisitsFrom seen t q o (node.AtWork call.Schedule) old new before after
-  VisitsStored (node.AtWork call.Expand) old new before after = GrowsOn new before after
-  VisitsStored node.Over old new before after =
-      VisitsFrom seen t q o node.Over old new before after
-  VisitsStored node.Unborn old new before after =
-      VisitsFrom seen t q o node.Unborn old new before after
 
 -- a cell at which the run was stopped before is left as it is, and each other one is visited
 abbrev pub VisitsCell : {P : Type 0} → (P → BoxPicture) → Identity → TaskQueue
     → (was is : Option StopCause) → (old new : NodeCell P) → (before after : WorkerTasks) → Type 0
-VisitsCell seen t q None is old new before after =
-    VisitsStored seen t q is old.mark.state old new before after
+VisitsCell seen t q None is old new before after = Visits seen t q is old new before after
 VisitsCell seen t q (Some c) is old new before after =
     (is ≡ Some c) × (new ≡ old) × (after ≡ before)
 

@@ -1,5 +1,5 @@
 -- What workers share, and what each has.
-use Rattle.std.specs.Prelude.{All, List, ℕ, ◌+◌, ◌≡◌, ◌≤◌, ◌⊎◌}
+use Rattle.std.specs.Prelude.{All, List, length, ℕ, ◌+◌, ◌≡◌, ◌≤◌, ◌⊎◌}
 use Rattle.core_laws.specs.Steps.{seen as tells_seen}
 use Rattle.core_laws.specs.declared.types.Step.TheVariants as step
 use Rattle.exec_table.specs.Seats.{Identity, IsRootOf, IsWorkerOf, WorkerDoes, identity_of, seen_of}
@@ -7,6 +7,9 @@ use Rattle.exec_table.specs.declared.rule.RootSeat.{RootSeat}
 use Rattle.exec_table.specs.declared.rule.WorkerSeat.{WorkerSeat}
 use Rattle.exec_table.specs.declared.types.Seen.{Seen}
 use Rattle.exec_table.specs.declared.types.Seen.TheVariants.{Stopped, Zero}
+use Rattle.growth_notes.specs.Notes.{reserve_count}
+use Rattle.node_workers.specs.Named.{AreNamedReserves}
+use Rattle.node_workers.specs.Names.{Names}
 use Rattle.node_workers.specs.declared.worker.Shared.{Shared}
 use Rattle.node_workers.specs.declared.worker.Worker.{Worker}
 use Rattle.task_queue.specs.Numbers.{total_over}
@@ -30,10 +33,14 @@ pub record HasSpare (t : Identity) (more : ℕ) (s : RootSeat) : Type 0 where
   pub spare : s.seat.me.0.made + more ≤ t.sizes.workers
 
 module _ {P J : Type 0} where
-  -- the table is the named one, and the places on the shelf are few enough for each to be kept
-  pub record IsShared (t : Identity) (s : Shared P J) : Type 0 where
-    pub table : identity_of s.table ≡ t
+  -- The table and the notes are the named ones, with a note for each reserve, and the places on the
+  -- shelf are few enough for each to be kept.
+  pub record IsShared (x : Names) (s : Shared P J) : Type 0 where
+    pub table : identity_of s.table ≡ x.identity
     pub few : places s.shelf ≤ 256
+    pub notes_are : s.notes.table.shared.table_id ≡ x.notes
+    pub one_each : reserve_count s.notes ≡ length x.identity.sizes.reserves
+    pub reserves : AreNamedReserves x.identity.sizes x.node
 
   -- a worker with seats of the shared table and shelf and a pass of the queue, which holds no cell
   pub record IsWorkerAt (s : Shared P J) (w : Worker P J) : Type 0 where

@@ -2,7 +2,7 @@
 ghost use Rattle.std.specs.Prelude.{◌≡◌, ◌<◌, ◌≤◌, [], All, IfOk, length, map, vec_capacity};
 ghost use Rattle.node_workers.specs.Rooms.{HasRoom, IsDequeFor, as_ended, as_named, node_cell};
 
-use crate::named_cell::{EndedCell, NamedCell, Naming};
+use crate::named_cell::{CellNote, EndedCell, NamedCell, Naming};
 use crate::worker::Worker;
 use exec_table::WorkerSeat;
 use node_cells::NodeCell;
@@ -87,6 +87,7 @@ pub(crate) fn name_cells<P: Processor, J: Naming>(
     while let Some(cell) = cells.pop() {
         room.push_reserved(NamedCell {
             cell,
+            note: CellNote::Bare,
             stopped: None,
             names: PhantomData,
         });
@@ -107,6 +108,7 @@ pub(crate) fn unname_cells<P: Processor, J: Naming>(
     while let Some(cell) = named.pop() {
         let NamedCell {
             cell,
+            note: _,
             stopped: _,
             names: _,
         } = cell;
@@ -128,10 +130,15 @@ pub(crate) fn end_cells<P: Processor, J: Naming>(
     while let Some(cell) = named.pop() {
         let NamedCell {
             cell,
+            note,
             stopped,
             names: _,
         } = cell;
-        room.push_reserved(EndedCell { cell, stopped });
+        room.push_reserved(EndedCell {
+            cell,
+            note,
+            stopped,
+        });
     }
     named.destroy_empty();
     room

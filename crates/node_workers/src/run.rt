@@ -1,7 +1,9 @@
 //! A run of all cells by so many workers.
 ghost use Rattle.std.specs.Prelude.{◌≡◌, ◌+◌, ◌<◌, ◌≤◌, All, IfErr, IfOk, length};
-ghost use Rattle.exec_table.specs.Seats.{IsRootOf, identity_of};
+ghost use Rattle.exec_table.specs.Seats.{IsRootOf, identity_of, sizes_in};
 ghost use Rattle.node_workers.specs.Ended.{AreNamed, named_by};
+ghost use Rattle.node_workers.specs.Named.{AreNamedReserves};
+ghost use Rattle.node_workers.specs.Notes.{HasNotesFor};
 ghost use Rattle.node_workers.specs.Rooms.{HasEndRoom, IsDequeFor, IsRoomFor};
 ghost use Rattle.node_workers.specs.Runs.{IsAsItWas, MayRunCells, RunHasEnded};
 ghost use Rattle.node_workers.specs.Workers.{AreWorkersOf, HasSpare, IsShared, IsWorkerAt, IsWorkerOver, WorkerHasEnded, parts_of};
@@ -12,11 +14,16 @@ ghost use Rattle.task_queue.specs.Shelves.{IsIdleSeatOf, parts, places};
 ghost use Rattle.task_queue.specs.Tasks.{OffersNumbers};
 
 use crate::named_cell::{EndedCell, NamedCell, Naming};
+use crate::notes::{give_notes, make_notes};
 use crate::rooms::{EndRooms, Rooms, end_cells, make_rooms, name_cells, unname_cells};
 use crate::worker::{Shared, Worker, run_workers};
+use chunk_data::Memory;
 use exec_laws::NodeStatus;
 use exec_table::{ExecTable, RootSeat, WorkerSeat};
+use growth_notes::{GrowthNotes, NotesRoot};
+use node_births::NotedGrowth;
 use node_cells::NodeCell;
+use port_word::Reserve;
 use proc_api::Processor;
 use std::alloc::Global;
 use std::collections::VecDeque;
@@ -25,13 +32,15 @@ use std::sync::Wait;
 use std::thread::Threads;
 use task_queue::{Shelf, ShelfSeat, TaskQueue, WorkerTasks};
 
-/// The table, its root, the workers' seats, and all cells in order of their numbers.
+/// The table, its root, the workers' seats, all cells in order of their numbers, and the notes of
+/// growths.
 #[derive(Drop)]
 pub struct Ended<P: Processor> {
     pub table: ExecTable,
     pub root: RootSeat,
     pub workers: Vec<WorkerSeat>,
     pub cells: Vec<EndedCell<P>>,
+    pub notes: GrowthNotes<NotedGrowth>,
 }
 
 /// What is given back where memory is wanting: nothing ran.
@@ -43,11 +52,9 @@ pub struct NotStarted<P: Processor> {
 }
 
 impl Naming for Brand {
-    ghost use Rattle.node_workers.specs.Ended.{no_identity, no_node};
+    ghost use Rattle.node_workers.specs.Ended.{no_names};
 
-    ghost identity = { no_identity };
-
-    ghost named = { λ n. no_node };
+    ghost names = { no_names };
 }
 
 /// Offers each node that may begin, from the last one on. A new table has charged those without
@@ -159,11 +166,11 @@ fn run_shared<P: Processor, J: Naming, R: Threads + Wait + Sync>(
     mut workers: Vec<Worker<P, J>>,
     rooms: EndRooms<P, J>,
 ) -> Ended<P>
-    requires shared { IsShared J.identity shared }
+    requires shared { IsShared J.names shared }
     requires root { IsRootOf (identity_of shared.table) root }
     requires workers { AreWorkersOf shared workers.items }
     requires rooms { HasEndRoom (places shared.shelf) (length workers.items) rooms }
-    ensures { RunHasEnded P.seen J.identity J.named shared.table (length workers.items)
+    ensures { RunHasEnded P.seen J.names.identity J.names.node shared.table (length workers.items)
         (places shared.shelf) result }
 {
     let EndRooms {
@@ -176,6 +183,7 @@ fn run_shared<P: Processor, J: Naming, R: Threads + Wait + Sync>(
     let Shared {
         alloc: _,
         table,
+        notes,
         queue: _,
         shelf,
     } = shared;
@@ -184,6 +192,7 @@ fn run_shared<P: Processor, J: Naming, R: Threads + Wait + Sync>(
         root,
         workers: seats,
         cells: end_cells(shelf.clear(shelf_seats), cells),
+        notes,
     }
 }
 
@@ -194,14 +203,21 @@ fn run_named<P: Processor, J: Naming, R: Threads + Wait + Sync>(
     table: ExecTable,
     mut root: RootSeat,
     mut cells: Vec<NodeCell<P>>,
+    notes: GrowthNotes<NotedGrowth>,
+    mut notes_root: NotesRoot<NotedGrowth>,
+    reserves: &[Reserve],
     workers: u32,
     queued: usize,
 ) -> Result<Ended<P>, NotStarted<P>>
-    requires table { identity_of table ≡ J.identity }
+    requires table { identity_of table ≡ J.names.identity }
     requires runnable { MayRunCells P.seen (identity_of table) root cells.items workers queued }
-    requires named { AreNamed P.seen J.named cells.items }
+    requires named { AreNamed P.seen J.names.node cells.items }
+    requires named_reserves { AreNamedReserves J.names.identity.sizes J.names.node }
+    requires reserves { reserves.now ≡ J.names.identity.sizes.reserves }
+    requires notes { notes.table.shared.table_id ≡ J.names.notes }
+    requires notes_root { HasNotesFor reserves.now notes notes_root }
     ensures ok { IfOk result
-        (RunHasEnded P.seen J.identity J.named table workers (length cells.items)) }
+        (RunHasEnded P.seen J.names.identity J.names.node table workers (length cells.items)) }
     ensures err { IfErr result (λ r. IsAsItWas table root cells r) }
 {
     let Ok(rooms) = make_rooms::<P, J>(alloc, cells.len(), workers as usize, queued) else {
@@ -217,7 +233,9 @@ fn run_named<P: Processor, J: Naming, R: Threads + Wait + Sync>(
     } = rooms;
     let mut tasks = WorkerTasks::new(pass);
     offer_first(rt, &queue, &mut tasks, cells.as_slice());
-    match Shelf::make(name_cells(&mut cells, named)) {
+    let mut named = name_cells(&mut cells, named);
+    give_notes(&notes, &mut notes_root, reserves, &mut named);
+    match Shelf::make(named) {
         Err(named) => {
             unname_cells(named, &mut cells);
             Err(NotStarted { table, root, cells })
@@ -226,6 +244,7 @@ fn run_named<P: Processor, J: Naming, R: Threads + Wait + Sync>(
             let shared = Shared {
                 alloc,
                 table,
+                notes,
                 queue,
                 shelf,
             };
@@ -244,22 +263,29 @@ fn run_named<P: Processor, J: Naming, R: Threads + Wait + Sync>(
 
 /// Runs the cells of all nodes, in order of their numbers, by so many workers until nothing is
 /// pending or the run was stopped. The queue has room for so many numbers; one that finds none
-/// stays with its worker. All memory is taken before the first step; where it is wanting all is
-/// given back as it was. Afterwards each cell is that of its node, with the box that it had, and
-/// each worker saw that nothing is pending or that the run was stopped.
+/// stays with its worker. All memory but that for growth is taken before the first step; where it
+/// is wanting all is given back as it was. Afterwards each cell is that of its node, with the box
+/// that it had, and each worker saw that nothing is pending or that the run was stopped.
 pub fn run_cells<P: Processor, R: Threads + Wait + Sync>(
     rt: &R,
     alloc: Global,
     table: ExecTable,
     root: RootSeat,
     cells: Vec<NodeCell<P>>,
+    reserves: &[Reserve],
     workers: u32,
     queued: usize,
 ) -> Result<Ended<P>, NotStarted<P>>
-    requires { MayRunCells P.seen (identity_of table) root cells.items workers queued }
+    requires runnable { MayRunCells P.seen (identity_of table) root cells.items workers queued }
+    requires reserves { reserves.now ≡ (sizes_in table).reserves }
     ensures ok { IfOk result (RunHasEnded P.seen (identity_of table) (named_by P.seen cells.items)
         table workers (length cells.items)) }
     ensures err { IfErr result (λ r. IsAsItWas table root cells r) }
 {
-    run_named::<P, Brand, R>(rt, alloc, table, root, cells, workers, queued)
+    match make_notes(alloc, reserves) {
+        Ok((notes, notes_root)) => run_named::<P, Brand, R>(
+            rt, alloc, table, root, cells, notes, notes_root, reserves, workers, queued,
+        ),
+        Err(Memory) => Err(NotStarted { table, root, cells }),
+    }
 }

@@ -8,11 +8,14 @@ ghost use Rattle.task_queue.specs.Shelves.{IsIdleSeatOf, parts, places};
 ghost use Rattle.task_queue.specs.Steps.{LiesFirst};
 ghost use Rattle.task_queue.specs.Tasks.{OffersNumbers};
 
+use crate::growth_visit::grow_in_place;
 use crate::named_cell::{NamedCell, Naming};
 use crate::visit::visit_cell;
 use atomic_table::Seat;
 use crossbeam_utils::Backoff;
 use exec_table::{ExecTable, Seen, WorkerSeat};
+use growth_notes::GrowthNotes;
+use node_births::NotedGrowth;
 use node_cells::RunEnd;
 use proc_api::Processor;
 use std::alloc::Global;
@@ -36,12 +39,13 @@ const LOOKS_BETWEEN_NAPS: u32 = 256;
 /// given up, take some 13 seconds, and little of a processor.
 const LOOKS_A_MICROSECOND: u32 = 10;
 
-/// What all workers share: the memory for growth, the table, the numbers of nodes that are due, and
-/// the cells.
+/// What all workers share: the memory for growth, the table, the notes of growths, the numbers of
+/// nodes that are due, and the cells.
 #[derive(Drop)]
 pub struct Shared<P: Processor, J: Naming> {
     pub alloc: Global,
     pub table: ExecTable,
+    pub notes: GrowthNotes<NotedGrowth>,
     pub queue: TaskQueue,
     pub shelf: Shelf<NamedCell<P, J>>,
 }
@@ -76,7 +80,7 @@ fn visit_slot<P: Processor, J: Naming, R: Wait>(
     place: &mut Seat<Option<NamedCell<P, J>>, Holding>,
     n: u32,
 ) -> RunEnd
-    requires shared { IsShared J.identity shared.now }
+    requires shared { IsShared J.names shared.now }
     requires worker { MayVisit (identity_of shared.now.table) shared.now.queue seat.old tasks.old }
     requires place { place.old.table_id ≡ shared.now.shelf.table.shared.table_id }
     requires lies { LiesFirst ⟦<NamedCell<P, J> as Placed>⟧.fits n place.old.me }
@@ -87,21 +91,13 @@ fn visit_slot<P: Processor, J: Naming, R: Wait>(
 {
     let slot = place.slot_mut(&shared.shelf.table.shared, n as usize);
     match slot {
-        Some(named) => visit_cell(
-            rt,
-            shared.alloc,
-            &shared.table,
-            &shared.queue,
-            seat,
-            tasks,
-            named,
-        ),
+        Some(named) => visit_cell(rt, &shared.table, &shared.queue, seat, tasks, named),
         None => unreachable!(),
     }
 }
 
-/// Visits the node with this number. Its cell stays where it lies on the shelf.
-fn visit_in_place<P: Processor, J: Naming, R: Wait>(
+/// Runs the node with this number. Its cell stays where it lies on the shelf.
+fn run_in_place<P: Processor, J: Naming, R: Wait>(
     rt: &R,
     shared: &Shared<P, J>,
     seat: &mut WorkerSeat,
@@ -109,7 +105,7 @@ fn visit_in_place<P: Processor, J: Naming, R: Wait>(
     shelf: &mut ShelfSeat<NamedCell<P, J>>,
     n: u32,
 ) -> RunEnd
-    requires shared { IsShared J.identity shared.now }
+    requires shared { IsShared J.names shared.now }
     requires worker { MayVisit (identity_of shared.now.table) shared.now.queue seat.old tasks.old }
     requires shelf { IsIdleSeatOf shared.now.shelf shelf.old }
     requires place { n < places shared.now.shelf }
@@ -124,16 +120,42 @@ fn visit_in_place<P: Processor, J: Naming, R: Wait>(
     end
 }
 
+/// Visits the node with this number: runs it, and has it grow where the graph is to grow by it.
+fn visit_in_place<P: Processor, J: Naming, R: Wait>(
+    rt: &R,
+    shared: &Shared<P, J>,
+    seat: &mut WorkerSeat,
+    tasks: &mut WorkerTasks,
+    shelf: &mut ShelfSeat<NamedCell<P, J>>,
+    n: u32,
+) -> RunEnd
+    requires shared { IsShared J.names shared.now }
+    requires worker { MayVisit (identity_of shared.now.table) shared.now.queue seat.old tasks.old }
+    requires shelf { IsIdleSeatOf shared.now.shelf shelf.old }
+    requires place { n < places shared.now.shelf }
+    ensures worker { HasVisited (identity_of shared.now.table) shared.now.queue seat.new tasks.old
+        tasks.new }
+    ensures shelf { IsIdleSeatOf shared.now.shelf shelf.new }
+    ensures parts { parts shelf.new ≡ parts shelf.old }
+{
+    match run_in_place(rt, shared, seat, tasks, shelf, n) {
+        RunEnd::Grows => grow_in_place(rt, shared, seat, tasks, shelf, n),
+        RunEnd::Rests => RunEnd::Rests,
+        RunEnd::Waits => RunEnd::Waits,
+    }
+}
+
 /// Visits the node with this number, and queues it again behind the others where its device has
-/// nothing yet, or the graph is to grow by it. A worker that finds nothing but devices that have
-/// nothing yet naps now and then, and has the node meanwhile, so that no other looks at its device.
+/// nothing yet, or the graph is to grow by it once more. A worker that finds nothing but devices
+/// that have nothing yet naps now and then, and has the node meanwhile, so that no other looks at
+/// its device.
 fn visit<P: Processor, J: Naming, R: Wait>(
     rt: &R,
     shared: &Shared<P, J>,
     worker: &mut Worker<P, J>,
     n: u32,
 )
-    requires shared { IsShared J.identity shared.now }
+    requires shared { IsShared J.names shared.now }
     requires worker { IsWorkerAt shared.now worker.old }
     requires place { n < places shared.now.shelf }
     ensures worker { IsWorkerAt shared.now worker.new }
@@ -182,7 +204,7 @@ fn visit_next<P: Processor, J: Naming, R: Wait>(
     shared: &Shared<P, J>,
     worker: &mut Worker<P, J>,
 ) -> bool
-    requires shared { IsShared J.identity shared.now }
+    requires shared { IsShared J.names shared.now }
     requires worker { IsWorkerAt shared.now worker.old }
     ensures worker { IsWorkerAt shared.now worker.new }
     ensures parts { parts worker.new.shelf ≡ parts worker.old.shelf }
@@ -207,7 +229,7 @@ pub fn run_worker<P: Processor, J: Naming, R: Wait>(
     shared: &Shared<P, J>,
     worker: &mut Worker<P, J>,
 )
-    requires shared { IsShared J.identity shared.now }
+    requires shared { IsShared J.names shared.now }
     requires worker { IsWorkerAt shared.now worker.old }
     ensures worker { IsWorkerOver shared.now worker.new }
     ensures parts { parts worker.new.shelf ≡ parts worker.old.shelf }
@@ -249,7 +271,7 @@ pub fn run_workers<P: Processor, J: Naming, R: Threads + Wait + Sync>(
     shared: &Shared<P, J>,
     workers: &mut [Worker<P, J>],
 )
-    requires shared { IsShared J.identity shared.now }
+    requires shared { IsShared J.names shared.now }
     requires workers { All (IsWorkerAt shared.now) workers.old }
     ensures workers { All (IsWorkerOver shared.now) workers.new }
     ensures parts { total_over parts_of workers.new ≡ total_over parts_of workers.old }
@@ -259,7 +281,7 @@ pub fn run_workers<P: Processor, J: Naming, R: Threads + Wait + Sync>(
         workers,
         MOST_WORKERS,
         &|_, worker: &mut Worker<P, J>| -> ()
-            requires shared { IsShared J.identity shared.now }
+            requires shared { IsShared J.names shared.now }
             requires worker { IsWorkerAt shared.now worker.old }
             ensures { IsWorkerOver shared.entry.now worker.new
                 × (parts_of worker.new ≡ parts_of worker.old) }

@@ -4,6 +4,9 @@ use Rattle.node_workers.proofs.run.run_cells.Given as goal
 
 abbrev pub ghosts-run_named : goal.ghosts-run_named
 ghosts-run_named g a = record {
-  identity = identity_of a.table;
-  named = named_by g.P.Processor.seen a.cells.items;
+  names = record {
+    identity = identity_of a.table;
+    notes = a.notes.table.shared.table_id;
+    node = named_by g.P.Processor.seen a.cells.items;
+  };
 }

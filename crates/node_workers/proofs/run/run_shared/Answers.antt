@@ -1,11 +1,12 @@
 use Rattle.std.proofs.Common.{All, ap, drop, length, refl, subst, sym, take, ℕ, ◌++◌, ◌∙◌}
+use Rattle.std.proofs.lemmas.List.{length-map}
 use lib.Seq.{take-append_seam}
-use Rattle.node_workers.proofs.EndLaws.{cleared-ended}
-use Rattle.node_workers.specs.Ended.{AreEnded}
+use Rattle.node_workers.proofs.EndLaws.{cleared-each}
+use Rattle.node_workers.proofs.SentNotes.{named_sent}
+use Rattle.node_workers.specs.Rooms.{as_ended}
 use Rattle.node_workers.specs.Workers.{IsWorkerOver, parts_of}
 use Rattle.node_workers.specs.declared.worker.Worker.{Worker}
 use Rattle.task_queue.specs.Numbers.{total_over}
-use Rattle.task_queue.specs.Shelves.{places}
 use Rattle.node_workers.proofs.run.run_shared.Goals as goal
 
 pub clear-requires-after_bounds : goal.clear-requires-after_bounds
@@ -32,14 +33,21 @@ returns g c =
     let now = c.run_workers.new.workers in let left = drop (length now) c.args.workers.items in
     let many = c.run_workers.auto.workers ∙ c.as_mut_slice.ensures.len in record {
       same_table = refl;
+      noted = c.requires.shared.notes_are;
       root_of = c.requires.root;
       seats = c.part_workers.ensures.seats;
       one_each = c.part_workers.ensures.count
           ∙ (ap length (ap (λ (n : ℕ). take n (now ++ left)) (sym many)
           ∙ take-append_seam now left) ∙ (many ∙ c.args.workers.ok.0));
-      ended = subst (AreEnded g.P.Processor.seen g.J.Naming.identity g.J.Naming.named
-          (places c.args.shared.shelf)) (sym c.end_cells.ensures)
-          (cleared-ended g.P.Processor.seen g.J.Naming.identity g.J.Naming.named
-          (places c.args.shared.shelf) c.clear.result.items c.clear.ensures.count
-          c.clear.ensures.fit);
+      ended = record {
+        notes = g.J.Naming.names.notes;
+        many = ap length c.end_cells.ensures ∙ (length-map c.clear.result.items as_ended
+            ∙ c.clear.ensures.count);
+        each = cleared-each g.P.Processor.seen g.J.Naming.names c.clear.result.items
+            c.end_cells.result.items c.end_cells.ensures c.clear.ensures.fit;
+      };
     }
+
+pub clear-requires-send-V : goal.clear-requires-send-V
+clear-requires-send-V g c κs lives =
+    named_sent _ _ c.type_bounds.send-P c.type_bounds.send-J _

@@ -14,9 +14,9 @@ returns-in-Some-clause-worker g c = record {
 
 pub returns-clause-fits : goal.returns-clause-fits
 returns-clause-fits g c = let ran = c.visit_stored-ran.ensures in
-    visited-fits g.P.Processor.seen g.J.Naming.identity g.J.Naming.named
-    (identity_of c.args.table.now) _ c.args.named.now.cell c.visit_stored-ran.new.cell
-    c.args.named.now.stopped _ _ c.requires.table c.in-None.is c.err-cause.ensures.value
+    visited-fits g.P.Processor.seen g.J.Naming.names (identity_of c.args.table.now) _
+    c.args.named.now.cell c.visit_stored-ran.new.cell c.args.named.now.stopped _ _
+    c.args.named.now.note c.requires.table c.in-None.is c.err-cause.ensures.value
     c.requires.fits ran.leaves
 
 pub returns-clause-stops : goal.returns-clause-stops

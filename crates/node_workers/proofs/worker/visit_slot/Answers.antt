@@ -11,7 +11,7 @@ returns-clause-lies g c =
     let named = c.visit_cell.new.named in
     let number : c.in-Some.named.cell.seat.node ≡ c.args.n = search rules in record {
       value = named;
-      fitting = subst (λ (n : ℕ). CellFits g.J.Naming.identity g.J.Naming.named
-          g.P.Processor.seen n named.cell named.stopped) number c.visit_cell.ensures.fits;
+      fitting = subst (λ (n : ℕ). CellFits g.J.Naming.names g.P.Processor.seen n named.cell
+          named.stopped named.note) number c.visit_cell.ensures.fits;
       first = refl;
     }
