@@ -1,14 +1,12 @@
 -- The boxes stay.
-use Rattle.node_ends.proofs.Imports.{BoxPicture, BoxStays, BoxesStay, GivenBack, List, NodeCell, None, Option, ap, arith, box_at, boxes_in, get_or, get_or-map, get_or-set_other, get_or-set_same, inl, inr, is_some, length, length-map, length-set, map, map-set, refl, set, sym, ℕ, ◌<◌, ◌∙◌, ◌≡◌}
+use Rattle.node_ends.proofs.Imports.{BoxPicture, BoxStays, BoxesStay, GivenBack, List, NodeCell, None, ap, arith, box_at, boxes_in, get_or, get_or-map, get_or-set_other, get_or-set_same, inl, inr, is_some, length, length-map, length-set, map, map-set, refl, set, ℕ, ◌<◌, ◌∙◌, ◌≡◌}
 use Rattle.exec_laws.proofs.Acting.{stays-both, stays-itself}
 use Rattle.exec_laws.proofs.BirthLaws.{none-of}
 use Rattle.exec_laws.proofs.Nodes.{at-node}
 use Rattle.node_cells.proofs.StayLaws.{growth-both}
-use Rattle.node_cells.specs.Stops.{GrowthStays}
-use Rattle.node_cells.specs.declared.stop_cause.StopCause.{StopCause}
 use Rattle.node_ends.specs.RunEnds.{GrowthsStay, StopsAt}
+use Rattle.node_ends.specs.declared.node_ends.EndCause.{EndCause}
 use Rattle.proc_api.specs.Names.{no_box}
-use Rattle.std.proofs.Common.{Some}
 use Rattle.std.proofs.lemmas.Bool.{cases_Bool}
 
 -- ---- one box
@@ -80,20 +78,15 @@ stayed-changed seen cells n x y lt read h = record {
 
 module _ (a b c : List BoxPicture) (h : BoxesStay a b) (k : BoxesStay b c) (stay : GrowthsStay a b)
   where
-    growth-at : (o : Option StopCause) (n : ℕ) → n < length a
-        → GrowthStays o (box_at b n) (box_at c n) → GrowthStays o (box_at a n) (box_at c n)
-    growth-at o n lt g = growth-both o (box_at a n) (box_at b n) (box_at c n)
-        (lawful-stays _ _ (k.each n (rw h.count lt))) (stay n lt) g
-
     -- where they stayed and stay they have stayed
     pub growths-both : GrowthsStay b c → GrowthsStay a c
-    growths-both g n lt = growth-at None n lt (g n (rw h.count lt))
+    growths-both g n lt = growth-both None (box_at a n) (box_at b n) (box_at c n)
+        (lawful-stays _ _ (k.each n (rw h.count lt))) (stay n lt) (g n (rw h.count lt))
 
-    -- what stops the run later stops it
-    pub stops-both : (n : ℕ) (s : StopCause) → StopsAt n s b c → StopsAt n s a c
+    -- what ends the run later ends it
+    pub stops-both : (n : ℕ) (s : EndCause) → StopsAt n s b c → StopsAt n s a c
     stops-both n s g = record {
       in_range = g.in_range;
       stop = g.stop;
-      growth = let lt = g.in_range in
-          growth-at (Some s) n (omega (arith, lt, h.count, k.count)) g.growth;
+      growth = growths-both g.growth;
     }

@@ -1,6 +1,6 @@
 -- One cell is visited, and all cells after it.
-use Rattle.node_ends.proofs.Imports.{AreCells, BoxPicture, BoxesStay, CellGraph, Identity, IsCellOf, IsUnborn, List, NodeCell, None, Option, ap, at_index, at_set, box_at, boxes_in, get_elem?, get_or, get_or-map, get_or-set_same, length, length-map, length-set, map, map-set, refl, set, some, subst, sym, ℕ, ⊎_elim, ◌<◌, ◌∙◌, ◌≡◌, ◌≢◌}
-use Rattle.std.proofs.Common.{Err, IfErr, Ok, OnOk, Result}
+use Rattle.node_ends.proofs.Imports.{AreCells, BoxPicture, BoxesStay, CellGraph, Identity, IsCellOf, IsUnborn, List, NodeCell, None, Option, ap, at_index, at_set, box_at, boxes_in, get_elem?, get_or, get_or-set_same, length, length-map, length-set, map, map-set, refl, set, some, subst, sym, ℕ, ⊎_elim, ◌<◌, ◌∙◌, ◌≡◌, ◌≢◌}
+use Rattle.std.proofs.Common.{Err, IfErr, Ok, OnOk, Result, Some}
 use Rattle.std.specs.Result.{result_err}
 use Rattle.node_cells.proofs.StayLaws.{same-places}
 use Rattle.node_cells.specs.Stops.{GrowthStays}
@@ -9,8 +9,9 @@ use Rattle.node_cells.specs.Visits.{LeavesCell}
 use Rattle.node_cells.specs.declared.stop_cause.StopCause.{StopCause}
 use Rattle.node_ends.proofs.Boxes.{at-changed, growths-both, stayed-both, stayed-changed, stops-both}
 use Rattle.node_ends.proofs.Visits.{blank-unborn, unborn-blank}
-use Rattle.node_ends.specs.RunEnds.{AreStoppedAt, AreVisited, KeepsCause}
-use Rattle.port_word.specs.declared.flags.Port.{Port}
+use Rattle.node_ends.specs.RunEnds.{AreStoppedAt, AreVisited, GrowthsStay, KeepsCause, stop_cause_of}
+use Rattle.node_ends.specs.declared.node_ends.EndCause.{EndCause}
+use Rattle.node_ends.specs.declared.node_ends.EndCause.TheVariants as cause
 use Rattle.proc_api.specs.Names.{no_box}
 
 module _ {P : Type 0} (seen : P → BoxPicture) (t : Identity) (cells : List (NodeCell P)) (n : ℕ)
@@ -68,25 +69,33 @@ module _ {P : Type 0} (seen : P → BoxPicture) (t : Identity) (cells : List (No
   unfolding box_at
   here y = rw map-set (get_or-set_same (map f cells) n (f y) no_box (rw length-map lt))
 
-  before : box_at (boxes_in seen cells) n ≡ seen x.processor
-  unfolding box_at
-  before = get_or-map f cells n x no_box lt ∙ ap f (sym read)
+  -- the growths that all boxes keep stay
+  growths-stay : (y : NodeCell P) → GrowthStays None (seen x.processor) (seen y.processor)
+      → GrowthsStay (boxes_in seen cells) (boxes_in seen (set cells n y))
+  growths-stay y growth k less =
+      at-changed seen cells n x y lt read (GrowthStays None) (λ p lawful. refl) growth k
 
-  -- where it stopped nothing these are the cells of all nodes after it
-  pub visited-at : {A : Type 0} (r : Result A StopCause) (y : NodeCell P)
-      → LeavesCell seen t (result_err r) x y → OnOk r (AreVisited seen t cells (set cells n y))
+  -- where it ended nothing these are the cells of all nodes after it
+  pub visited-at : {A : Type 0} (r : Result A EndCause) (y : NodeCell P)
+      → LeavesCell seen t (stop_cause_of (result_err r)) x y
+      → OnOk r (AreVisited seen t cells (set cells n y))
   visited-at (Ok v) y leaves = record {
     cells = λ g all. cells-changed _ y leaves g all leaves.lies;
     count = length-set cells n y;
     back = boxes-back _ y leaves;
-    growth = λ k less. at-changed seen cells n x y lt read (GrowthStays None) (λ p lawful. refl)
-        leaves.stays.growth k;
+    growth = growths-stay y leaves.stays.growth;
   }
   visited-at (Err s) y leaves = tt
 
-  -- what stops the run at its box stops it at its node
-  pub stops-at : {A : Type 0} (r : Result A StopCause) (y : NodeCell P)
-      → LeavesCell seen t (result_err r) x y → IfErr r (λ s. KeepsCause s (seen y.processor))
+  growth-stays : (s : EndCause) (p q : BoxPicture) → GrowthStays (stop_cause_of (Some s)) p q
+      → GrowthStays None p q
+  growth-stays (cause.Fault f) p q h = h
+  growth-stays cause.Growth p q h = h
+
+  -- what ends the run at its box ends it at its node
+  pub stops-at : {A : Type 0} (r : Result A EndCause) (y : NodeCell P)
+      → LeavesCell seen t (stop_cause_of (result_err r)) x y
+      → IfErr r (λ s. KeepsCause s (seen y.processor))
       → IfErr r (λ s. AreStoppedAt seen n s cells (set cells n y))
   stops-at (Ok v) y leaves h = tt
   stops-at (Err s) y leaves h = record {
@@ -95,7 +104,7 @@ module _ {P : Type 0} (seen : P → BoxPicture) (t : Identity) (cells : List (No
     stop = record {
       in_range = rw (length-map, length-set) lt;
       stop = rw (here y) h;
-      growth = rw (here y, before) leaves.stays.growth;
+      growth = growths-stay y (growth-stays s _ _ leaves.stays.growth);
     };
   }
 
@@ -111,7 +120,7 @@ module _ {P : Type 0} (seen : P → BoxPicture) (t : Identity) (a b c : List (No
     growth = growths-both _ _ _ h.back k.back h.growth k.growth;
   }
 
-  pub stopped-both : (n : ℕ) (s : StopCause) → AreStoppedAt seen n s b c → AreStoppedAt seen n s a c
+  pub stopped-both : (n : ℕ) (s : EndCause) → AreStoppedAt seen n s b c → AreStoppedAt seen n s a c
   stopped-both n s k = record {
     count = k.count ∙ h.count;
     back = stayed-both _ _ _ h.back k.back;

@@ -1,5 +1,5 @@
 -- The cells of a new table, before any worker ran.
-use Rattle.node_ends.proofs.Imports.{BoxPicture, List, NodeCell, Wire, [], ap, at_map, get_elem?, identity_of, length, length-map, some, subst, sym, ℕ, ◌∙◌, ◌≡◌, cell_ports}
+use Rattle.node_ends.proofs.Imports.{BoxPicture, List, NodeCell, Wire, [], ap, get_elem?, identity_of, length, length-map, some, subst, sym, ℕ, ◌∙◌, ◌≡◌, cell_ports}
 use Rattle.core_laws.specs.declared.types.Sizes.{Sizes}
 use Rattle.exec_laws.specs.Prelude.{Reserve}
 use Rattle.exec_laws.specs.declared.edges.NodeMark.{NodeMark}

@@ -117,4 +117,5 @@ pub settled-ends : (e : NodesEnd) (wires : List Wire) (before after : List BoxPi
     → SettledEndHolds e wires after → GrowthsStay before after → NodesEndHolds e wires before after
 settled-ends end.Done wires before after h g = (h, g)
 settled-ends (end.Stuck report n) wires before after h g = (h, g)
-settled-ends (end.Stopped n s) wires before after h g = absurd h
+settled-ends (end.Fault n f) wires before after h g = absurd h
+settled-ends (end.Grows n) wires before after h g = absurd h

@@ -3,11 +3,8 @@ use Rattle.node_ends.proofs.Imports.{AtHome, BoxPicture, Identity, IsBorn, IsUnb
 use Rattle.exec_laws.specs.declared.edges.DueCall.TheVariants as call
 use Rattle.exec_laws.specs.declared.edges.NodeStatus.TheVariants as node
 use Rattle.exec_laws.proofs.Nodes.{not-blank}
-use Rattle.node_cells.proofs.StayLaws.{keeps-stays}
 use Rattle.node_cells.specs.Cells.{CellHolds}
 use Rattle.node_cells.specs.Stored.{AwaitsBirth, IsStored}
-use Rattle.node_cells.specs.Visits.{LeavesCell}
-use Rattle.node_ports.proofs.LoopLaws.{same-ports}
 
 module _ {P : Type 0} (seen : P → BoxPicture) (t : Identity) (c : NodeCell P) where
   -- where nothing more is due of a born node, the cell is at home
@@ -56,18 +53,6 @@ module _ {P : Type 0} (seen : P → BoxPicture) (t : Identity) (c : NodeCell P) 
   pub unborn-blank : IsStored seen t c → IsUnborn c → (seen c.processor).spec ≡ None
   unborn-blank h unborn =
       let kept : AwaitsBirth seen t c = subst (λ z. StoredAs seen t z c) unborn h in kept.blank
-
-  -- a node that isn't due a visit stays
-  pub stays-unvisited : IsStored seen t c → LeavesCell seen t None c c
-  stays-unvisited h = record {
-    stays = keeps-stays seen c c record {
-      processor = refl;
-      ports = same-ports _;
-      reserve = refl;
-    };
-    blank = λ _. refl;
-    lies = h;
-  }
 
 -- nothing more is due of the node
 abbrev pub RestsOn : {P : Type 0} → NodeCell P → Type 0

@@ -3,7 +3,7 @@ use Rattle.node_ends.specs.Prelude.{AreSettled, Board, BoxPicture, CellPicture, 
 use Rattle.exec_laws.specs.declared.edges.NodeStatus.TheVariants as node
 use Rattle.port_word.specs.declared.flags.Port.{Port}
 use Rattle.task_queue.specs.Queues.{IsPassOf}
-use Rattle.std.specs.Prelude.{List, Vec, [], false, length, map, slice_index_or, vec_capacity, ℕ, ◌≡◌, ◌≢◌, ◌≤◌}
+use Rattle.std.specs.Prelude.{List, Vec, [], false, length, map, slice_index_or, vec_capacity, ℕ, ◌≡◌, ◌≤◌}
 use Rattle.std.specs.declared.alloc.Global.{Global}
 use mathlib.Core.Option.{some}
 use lib.ListN.{get_elem?}

@@ -4,7 +4,8 @@
 //! As the last worker it takes up each node that the run left due, until a survey of the table
 //! finds nothing pending. The run is then done where the view of each node at rest supports its
 //! last status, and else stuck at a node whose box isn't lawful, since in ClickHouse's
-//! `IProcessor.h` a status says what a processor waits for.
+//! `IProcessor.h` a status says what a processor waits for. It ends before that at a node whose box
+//! answers a fault, or asks for the graph to grow: workers do that.
 //!
 //! - `cells_survey.rt`: a survey of the table with the seats of all cells
 //! - `node_ends.rt`: the run goes on to its end
@@ -18,6 +19,5 @@ mod node_ends;
 mod resting;
 
 pub use cells_survey::{NodeBody, SurveyRoom};
-pub use node_cells::StopCause;
 pub use node_ends::{EndRoom, NodesEnd, end_nodes, new_end_room};
 pub use resting::rests;

@@ -6,7 +6,7 @@ ghost use Rattle.std.specs.Result.{result_err};
 ghost use Rattle.node_cells.specs.Stored.{IsStored};
 ghost use Rattle.node_cells.specs.Visits.{LeavesCell};
 ghost use Rattle.node_ends.specs.CellLists.{AreAtRest, AreCells, AreCellsOfGraph, CellGraph, IsEndRoomFor, IsSettled, IsSurveyRoom, boxes_in, wholes_of};
-ghost use Rattle.node_ends.specs.RunEnds.{AreStoppedAt, AreVisited, BoxesStay, IsSettledEnd, KeepsCause, NodesEndHolds, SettledEndHolds};
+ghost use Rattle.node_ends.specs.RunEnds.{AreStoppedAt, AreVisited, BoxesStay, IsSettledEnd, KeepsCause, NodesEndHolds, SettledEndHolds, stop_cause_of};
 ghost use Rattle.task_queue.specs.Queues.{IsPassOf};
 
 use crate::cells_survey::{SurveyRoom, new_survey_room, survey_cells};
@@ -15,8 +15,8 @@ use chunk_data::{List, Memory};
 use crossbeam_utils::Backoff;
 use exec_laws::{NodeStatus, StuckNode};
 use exec_table::ExecTable;
-use node_cells::{NodeCell, RunEnd, StopCause, visit_node};
-use proc_api::Processor;
+use node_cells::{NodeCell, RunEnd, visit_node};
+use proc_api::{Processor, WorkFault};
 use std::alloc::Global;
 use std::sync::Wait;
 use task_queue::{TaskQueue, WorkerTasks};
@@ -29,8 +29,18 @@ pub enum NodesEnd {
     Done,
     /// Nothing is pending, and these nodes aren't over; the box of the named one isn't lawful.
     Stuck(List<StuckNode>, u32),
-    /// The run was stopped at this node.
-    Stopped(u32, StopCause),
+    /// The box of this node answered this fault.
+    Fault(u32, WorkFault),
+    /// The box of this node asks for the graph to grow, which is for workers to do.
+    Grows(u32),
+}
+
+/// Why the run ends at a node before nothing is pending.
+#[derive(Drop)]
+pub(crate) enum EndCause {
+    Fault(WorkFault),
+    /// The graph is to grow by the node.
+    Growth,
 }
 
 /// What the end of a run needs, made before the run so that its end wants no memory.
@@ -113,8 +123,8 @@ fn is_due(state: NodeStatus, is_charged: bool) -> bool {
     }
 }
 
-/// Takes up the node of a cell, if the run left it due. Workers grow a graph before they end:
-/// nothing does so now.
+/// Takes up the node of a cell, if the run left it due. Where the graph is to grow by it the run
+/// ends: workers grow a graph, before they end.
 fn visit<P: Processor, R: Wait>(
     rt: &R,
     table: &ExecTable,
@@ -122,11 +132,11 @@ fn visit<P: Processor, R: Wait>(
     tasks: &mut WorkerTasks,
     cell: &mut NodeCell<P>,
     is_charged: bool,
-) -> Result<(), StopCause>
+) -> Result<(), EndCause>
     requires pass { IsPassOf queue.now tasks.old.pass }
     requires cell { IsStored P.seen (identity_of table.now) cell.old }
     ensures pass { IsPassOf queue.now tasks.new.pass }
-    ensures leaves { LeavesCell P.seen (identity_of table.now) (result_err result)
+    ensures leaves { LeavesCell P.seen (identity_of table.now) (stop_cause_of (result_err result))
         cell.old cell.new }
     ensures stop { IfErr result (λ s. KeepsCause s (P.seen cell.new.processor)) }
 {
@@ -134,9 +144,9 @@ fn visit<P: Processor, R: Wait>(
         return Ok(());
     }
     match visit_node(rt, table, queue, tasks, cell) {
-        Ok(RunEnd::Grows) => Err(StopCause::Memory),
+        Ok(RunEnd::Grows) => Err(EndCause::Growth),
         Ok(RunEnd::Rests | RunEnd::Waits) => Ok(()),
-        Err(fault) => Err(StopCause::Fault(fault)),
+        Err(fault) => Err(EndCause::Fault(fault)),
     }
 }
 
@@ -149,7 +159,7 @@ fn visit_at<P: Processor, R: Wait>(
     cells: &mut Vec<NodeCell<P>>,
     n: usize,
     is_charged: bool,
-) -> Result<(), StopCause>
+) -> Result<(), EndCause>
     requires pass { IsPassOf queue.now tasks.old.pass }
     requires in_range { n < length cells.old.items }
     requires cells { AreCellsOfGraph P.seen (identity_of table.now) cells.old.items }
@@ -169,7 +179,7 @@ fn visit_all<P: Processor, R: Wait>(
     tasks: &mut WorkerTasks,
     cells: &mut Vec<NodeCell<P>>,
     words: &[u64],
-) -> Result<(), (usize, StopCause)>
+) -> Result<(), (usize, EndCause)>
     requires pass { IsPassOf queue.now tasks.old.pass }
     requires cells { AreCellsOfGraph P.seen (identity_of table.now) cells.old.items }
     ensures pass { IsPassOf queue.now tasks.new.pass }
@@ -188,7 +198,7 @@ fn visit_all<P: Processor, R: Wait>(
     Ok(())
 }
 
-/// Goes on until a survey finds nothing pending, or the run is stopped at a node.
+/// Goes on until a survey finds nothing pending, or the run ends at a node.
 fn settle<P: Processor, R: Wait>(
     rt: &R,
     table: &ExecTable,
@@ -196,7 +206,7 @@ fn settle<P: Processor, R: Wait>(
     tasks: &mut WorkerTasks,
     cells: &mut Vec<NodeCell<P>>,
     room: &mut SurveyRoom<P>,
-) -> Result<(), (usize, StopCause)>
+) -> Result<(), (usize, EndCause)>
     requires pass { IsPassOf queue.now tasks.old.pass }
     requires cells { AreCellsOfGraph P.seen (identity_of table.now) cells.old.items }
     requires room { IsSurveyRoom (identity_of table.now) (length cells.old.items) room.old }
@@ -268,6 +278,7 @@ pub fn end_nodes<P: Processor, R: Wait>(
     } = room;
     match settle(rt, table, &queue, &mut tasks, cells, &mut survey) {
         Ok(()) => settled_end(cells, report),
-        Err((n, stop)) => NodesEnd::Stopped(n as u32, stop),
+        Err((n, EndCause::Fault(fault))) => NodesEnd::Fault(n as u32, fault),
+        Err((n, EndCause::Growth)) => NodesEnd::Grows(n as u32),
     }
 }

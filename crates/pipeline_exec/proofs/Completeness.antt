@@ -1,5 +1,5 @@
 -- Lawful boxes that keep no fault end a run done, or out of memory.
-use Rattle.pipeline_exec.proofs.Words.{BoxPicture, GivenBack, GivesBox, List, arith, inl, inr, refl, subst, sym, ◌<◌, ◌∙◌, ◌≡◌}
+use Rattle.pipeline_exec.proofs.Imports.{BoxPicture, GivenBack, GivesBox, List, arith, inl, inr, refl, subst, sym, ◌<◌, ◌∙◌, ◌≡◌}
 use Rattle.pipeline_exec.specs.Ends.{Begun, IsDoneOrMemory, ExecEndHolds, RunsWell}
 use Rattle.pipeline_exec.specs.declared.run.ExecEnd.{ExecEnd}
 use Rattle.pipeline_exec.specs.declared.run.ExecEnd.TheVariants as end

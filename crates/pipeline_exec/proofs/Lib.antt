@@ -1,14 +1,7 @@
-pub mod Words
+mod Imports
 pub mod Lists
-pub mod Moving
-pub mod Calling
-pub mod Creating
-pub mod RunEnds
-pub mod GrowthLaws
-pub mod BirthSteps
-pub mod GrowthRuns
-pub mod GrowthSteps
-pub mod GrowthEnds
-pub mod WorkerEnds
 pub mod Completeness
-pub mod Imports
+pub mod CellChanges
+pub mod EndedNodes
+pub mod LaterEnds
+pub mod WorkerEnds

@@ -1,29 +1,17 @@
 -- The ends of a run.
-use Rattle.pipeline_exec.specs.Prelude.{AreAllBorn, AreBirths, Birth, BoxPicture, ExecEnd, GrowthFlaw, IsBadGrowth, IsDone, IsFault, IsGraph, IsStuck, Reserve, SameBox, Wire, WorkFault, box_at, grown_ranks, grown_wires}
+use Rattle.exec_laws.specs.Names.{AreAllBorn, AreBirths, Birth, IsBadGrowth, IsDone, IsFault, IsStuck, box_at, grown_ranks, grown_wires}
+use Rattle.exec_laws.specs.Prelude.{BoxPicture, IsGraph, Reserve, SameBox, Wire, WorkFault}
+use Rattle.exec_laws.specs.declared.growth.GrowthFlaw.{GrowthFlaw}
 use Rattle.std.specs.Prelude.{IsTrue, List, None, [], length, ℕ, ⊤, ◌<◌, ◌≡◌, ◌≢◌, ◌⊎◌}
-use Rattle.proc_api.specs.Reserves.{AreReserves, AreStarting}
 use Rattle.proc_api.specs.declared.status.WorkFault.TheVariants as fault
+use Rattle.pipeline_exec.specs.declared.run.ExecEnd.{ExecEnd}
 use Rattle.pipeline_exec.specs.declared.run.ExecEnd.TheVariants as end
-
--- a graph before its run: its boxes by what is seen of them
-pub record Begun : Type 0 where
-  pub ranks : List ℕ
-  pub wires : List Wire
-  pub reserves : List Reserve
-  pub boxes : List BoxPicture
+pub use Rattle.node_births.specs.LeftNodes.{GraphBefore as Begun}
 
 -- the graph of these parts
 abbrev pub graph_of_boxes : List ℕ → List Wire → List Reserve → List BoxPicture → Begun
 graph_of_boxes ranks wires reserves boxes =
     record { ranks = ranks; wires = wires; reserves = reserves; boxes = boxes }
-
--- a graph with so many boxes that may be run: those that are kept for growth are blank, and each
--- other one is as it was loaded
-pub record IsStartingGraph (nodes : ℕ) (b : Begun) : Type 0 where
-  pub graph : IsGraph b.ranks b.wires b.reserves
-  pub one_each : nodes ≡ length b.ranks
-  pub reserves_fit : AreReserves (length b.ranks) (length b.wires) b.wires b.reserves
-  pub starting : AreStarting b.reserves b.boxes
 
 -- the graph has grown, and this is true of the wires then
 pub record HasGrown (b : Begun) (boxes : List BoxPicture) (P : List Wire → Type 0) : Type 0 where
@@ -77,11 +65,3 @@ IsFaultEnd (end.Fault n g) node f = (n ≡ node) × (g ≡ f) × (f ≢ fault.Me
 IsFaultEnd end.Done node f = ⊥
 IsFaultEnd (end.Stuck report n) node f = ⊥
 IsFaultEnd (end.BadGrowth n g) node f = ⊥
-
--- where nothing is due, the run is done or stuck
-abbrev pub EndsSettled : ExecEnd → List Wire → List BoxPicture → Type 0
-EndsSettled end.Done wires boxes = IsDone wires boxes
-EndsSettled (end.Stuck report node) wires boxes = IsStuck wires boxes report node
-EndsSettled (end.Fault n g) wires boxes = ⊥
-EndsSettled (end.BadGrowth n g) wires boxes = ⊥
-EndsSettled end.Memory wires boxes = ⊥

@@ -1,5 +1,3 @@
-pub mod Prelude
-pub mod Cells
 pub mod Ends
-pub mod Growing
+pub mod Gathering
 pub mod WorkerRuns

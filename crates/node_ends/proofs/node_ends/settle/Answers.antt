@@ -1,4 +1,4 @@
-use Rattle.node_ends.proofs.Imports.{IsSurveyRoom, ap, arith, get_or, identity_of, refl, subst, sym, ◌∙◌}
+use Rattle.node_ends.proofs.Imports.{IsSurveyRoom, ap, get_or, identity_of, refl, subst, sym, ◌∙◌}
 use Rattle.node_ends.proofs.CellChanges.{stopped-both, visited-both}
 use Rattle.node_ends.proofs.Settling.{settled-cells}
 use Rattle.node_ends.proofs.Surveys.{all-seats, surveyed-visited}

@@ -1,5 +1,0 @@
-use Rattle.pipeline_exec.proofs.Imports.{refl}
-use Rattle.pipeline_exec.proofs.run.fault_end.Goals as goal
-
-pub returns-in_default : goal.returns-in_default
-returns-in_default c = (refl, refl, c.in_default.not-Memory)
