@@ -1,6 +1,6 @@
 // The cells of chains of boxes, told by texts.
-ghost use Rattle.std.specs.Prelude.{◌≤◌, IfOk, OnOk, map};
-ghost use Rattle.exec_table.specs.Seats.{identity_of};
+ghost use Rattle.std.specs.Prelude.{◌≡◌, ◌≤◌, [], IfOk, OnOk, map};
+ghost use Rattle.exec_table.specs.Seats.{identity_of, sizes_in};
 ghost use Rattle.node_ends.specs.CellLists.{AreCellsOfGraph};
 ghost use Rattle.node_workers.specs.Ended.{AreStored};
 ghost use Rattle.node_workers.specs.Workers.{HasSpare};
@@ -110,6 +110,7 @@ pub(crate) fn cells_of(
     requires starting { AreStarting builder.reserves (map (λ b. seen b) builder.boxes.items) }
     requires workers { (1 ≤ workers) × (workers ≤ 16) }
     ensures spare { IfOk result (λ c. HasSpare (identity_of c.table) workers c.root) }
+    ensures bare { IfOk result (λ c. (sizes_in c.table).reserves ≡ []) }
     ensures stored { IfOk result
         (λ c. AreStored (λ b. seen b) (identity_of c.table) c.cells.items) }
     ensures cells { IfOk result

@@ -6,7 +6,7 @@ use crate::chains::{cells_of, chain_of};
 use crate::driven::{halves, show_fault};
 use crate::scripted::{Role, make_box};
 use node_cells::Cells;
-use node_ends::{NodesEnd, StopCause, end_nodes, new_end_room};
+use node_ends::{NodesEnd, end_nodes, new_end_room};
 use proc_api::Processor;
 use query_model::processor_spec::Kind;
 use std::alloc::Global;
@@ -24,12 +24,11 @@ fn show_end(alloc: Global, end: NodesEnd) -> Result<String, Fail> {
                 write!(text, " {} {:?}", node.node, node.last)?;
             }
         }
-        NodesEnd::Stopped(n, StopCause::Fault(fault)) => {
+        NodesEnd::Fault(n, fault) => {
             write!(text, "fault at {n}: ")?;
             show_fault(&mut text, fault)?;
         }
-        NodesEnd::Stopped(n, StopCause::Flaw(flaw)) => write!(text, "flaw at {n}: {flaw:?}")?,
-        NodesEnd::Stopped(n, StopCause::Memory) => write!(text, "memory at {n}")?,
+        NodesEnd::Grows(n) => write!(text, "grows at {n}")?,
     }
     Ok(text)
 }
@@ -60,8 +59,8 @@ static ENDS: [&str; 6] = [
     "Numbers>Resize>own>Resize>Collect~fault at 2: bad 1 of 2",
     // The numbers are never asked for.
     "Numbers>own>Collect~stuck at 1: 0 Some(PortFull) 1 Some(NeedData) 2 Some(NeedData)",
-    // Workers grow a graph before they end.
-    "own~memory at 0",
+    // Workers grow a graph, before they end.
+    "own~grows at 0",
 ];
 
 // The own boxes answer a fault, ask for nothing, and ask to grow.

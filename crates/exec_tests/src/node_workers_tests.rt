@@ -1,7 +1,7 @@
 // Chains of boxes that workers run over the cells of their nodes: how each node ends and its rows.
-ghost use Rattle.std.specs.Prelude.{◌≡◌, None, false, IfOk};
+ghost use Rattle.std.specs.Prelude.{◌≡◌, [], None, false, IfOk};
 ghost use Rattle.exec_laws.specs.declared.edges.NodeStatus.TheVariants.{Over};
-ghost use Rattle.exec_table.specs.Seats.{identity_of};
+ghost use Rattle.exec_table.specs.Seats.{identity_of, sizes_in};
 ghost use Rattle.exec_tests.specs.EndedCells.{AllLie, Lies};
 ghost use Rattle.node_workers.specs.Runs.{MayRunCells};
 
@@ -72,6 +72,7 @@ fn show_nodes(alloc: Global, ended: Ended<Box<dyn Processor + Send>>) -> Result<
         root: _,
         workers: _,
         mut cells,
+        notes: _,
     } = ended;
     let mut text = String::new(alloc);
     while let Some(mut cell) = cells.pop() {
@@ -87,12 +88,13 @@ fn run_by<R: AllocGlobal + Sync + Threads + Wait>(
     workers: u32,
     queued: usize,
 ) -> Result<Ended<Box<dyn Processor + Send>>, Fail>
-    requires { MayRunCells (λ b. seen b) (identity_of cells.table) cells.root cells.cells.items
-        workers queued }
+    requires runnable { MayRunCells (λ b. seen b) (identity_of cells.table) cells.root
+        cells.cells.items workers queued }
+    requires bare { (sizes_in cells.table).reserves ≡ [] }
     ensures { IfOk result (AllLie (λ b. seen b)) }
 {
     let Cells { table, root, cells } = cells;
-    match run_cells(rt, rt.alloc(), table, root, cells, workers, queued) {
+    match run_cells(rt, rt.alloc(), table, root, cells, &[], workers, queued) {
         Ok(ended) => Ok(ended),
         Err(_) => Err("the run did not start".into()),
     }
@@ -105,8 +107,9 @@ fn show_run<R: AllocGlobal + Sync + Threads + Wait>(
     workers: u32,
     queued: usize,
 ) -> Result<String, Fail>
-    requires { MayRunCells (λ b. seen b) (identity_of cells.table) cells.root cells.cells.items
-        workers queued }
+    requires runnable { MayRunCells (λ b. seen b) (identity_of cells.table) cells.root
+        cells.cells.items workers queued }
+    requires bare { (sizes_in cells.table).reserves ≡ [] }
 {
     match run_by(rt, cells, workers, queued) {
         Ok(ended) => show_nodes(rt.alloc(), ended),

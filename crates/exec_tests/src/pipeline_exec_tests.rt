@@ -223,37 +223,48 @@ fn blanks_of(
     Ok(boxes)
 }
 
-// Runs a box alone that grows, with a reserve of the blanks and an edge.
+// Runs a box alone that grows, with a reserve of the blanks and an edge, by so many workers.
 fn run_growing<R: AllocGlobal + Threads + Wait + Sync>(
     rt: &R,
     growing: Box<dyn Processor + Send>,
     blanks: Vec<Box<dyn Processor + Send>>,
+    workers: u32,
 ) -> Result<ExecEnd, Fail>
-    requires { All IsBlank (map (λ b. seen b) blanks.items) }
+    requires workers { (1 ≤ workers) × (workers ≤ 16) }
+    requires blanks { All IsBlank (map (λ b. seen b) blanks.items) }
 {
     let mut builder = GraphBuilder::new(rt.alloc());
     add(rt.alloc(), &mut builder, growing, 1)?;
     reserve(&mut builder, blanks)?;
-    let (_, end) = run_built(rt, builder, 1)?;
+    let (_, end) = run_built(rt, builder, workers)?;
     Ok(end)
 }
 
 #[test]
 fn a_growth_with_a_flaw_ends_the_run(rt: HostRuntime) -> Result<(), Fail> {
-    for (role, kept, flaw) in [
-        (Role::Loop, false, GrowthFlaw::WrongEnd),
-        (Role::Source, false, GrowthFlaw::TooManyNodes),
-        (Role::Source, true, GrowthFlaw::NoBlank(Kind::Csv)),
-    ] {
-        let filter = Box::new(rt.alloc(), make_box(rt, Kind::Filter, Role::Give, 0)?)?;
-        let blanks = blanks_of(rt.alloc(), filter, kept)?;
-        let growing = Box::new(rt.alloc(), make_box(rt, Kind::List, role, 0)?)?;
-        let end = run_growing(&rt, growing, blanks)?;
-        let ExecEnd::BadGrowth(node, found) = end else {
-            return Err("the growth had no flaw".into())
+    for run in 0..3 {
+        let workers = if run == 0 {
+            1
+        } else if run == 1 {
+            2
+        } else {
+            16
         };
-        assert_eq!(rt; node, 0);
-        assert_eq!(rt; found, flaw);
+        for (role, kept, flaw) in [
+            (Role::Loop, false, GrowthFlaw::WrongEnd),
+            (Role::Source, false, GrowthFlaw::TooManyNodes),
+            (Role::Source, true, GrowthFlaw::NoBlank(Kind::Csv)),
+        ] {
+            let filter = Box::new(rt.alloc(), make_box(rt, Kind::Filter, Role::Give, 0)?)?;
+            let blanks = blanks_of(rt.alloc(), filter, kept)?;
+            let growing = Box::new(rt.alloc(), make_box(rt, Kind::List, role, 0)?)?;
+            let end = run_growing(&rt, growing, blanks, workers)?;
+            let ExecEnd::BadGrowth(node, found) = end else {
+                return Err("the growth had no flaw".into())
+            };
+            assert_eq!(rt; node, 0);
+            assert_eq!(rt; found, flaw);
+        }
     }
     Ok(())
 }

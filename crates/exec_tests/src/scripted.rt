@@ -2,7 +2,7 @@
 ghost use Rattle.std.specs.Prelude.{◌≡◌, ◌<◌, IfOk};
 ghost use Rattle.port_word.specs.Names.{in_count, ChangedByCalls};
 ghost use Rattle.proc_api.specs.Forms.{growth_form};
-ghost use Rattle.proc_api.specs.Names.{no_notes};
+ghost use Rattle.proc_api.specs.Names.{ReadsPart, no_notes};
 ghost use Rattle.exec_tests.specs.Scripts.{script_growth, script_spec, test_part};
 
 use chunk_data::{Bytes, Chunk, List, Memory};
@@ -177,7 +177,7 @@ impl<R: Abort + AllocGlobal + Drop + Send> Processor for Scripted<R> {
 }
 
 fn must_be_source(rt: &impl Abort, kind: Kind)
-    ensures { kind ≡ Kind.Csv }
+    ensures { ReadsPart kind }
 {
     match kind {
         Kind::Csv => {}

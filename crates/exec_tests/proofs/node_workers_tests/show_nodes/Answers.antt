@@ -9,3 +9,15 @@ loop-cell-preserved g c = (All-pop (Lies
     (λ b. (goal.Processor-dyn g (b.vtable, b.value)).seen b.value)
     (identity_of c.args.ended.table)) c.loop-cell.cells.items c.pop.new.self.items
     (Some c.in-Some.cell) c.in-Some.ensures.items c.loop-cell.invariant).0
+
+pub loop-cell-preserved-in_ok-show_node : goal.loop-cell-preserved-in_ok-show_node
+loop-cell-preserved-in_ok-show_node g c = (All-pop (Lies
+    (λ b. (goal.Processor-dyn g (b.vtable, b.value)).seen b.value)
+    (identity_of c.args.ended.table)) c.loop-cell.cells.items c.pop.new.self.items
+    (Some c.in-Some.cell) c.in-Some.ensures.items c.loop-cell.invariant).0
+
+pub loop-cell-preserved-in_ok-show_node-2 : goal.loop-cell-preserved-in_ok-show_node-2
+loop-cell-preserved-in_ok-show_node-2 g c = (All-pop (Lies
+    (λ b. (goal.Processor-dyn g (b.vtable, b.value)).seen b.value)
+    (identity_of c.args.ended.table)) c.loop-cell.cells.items c.pop.new.self.items
+    (Some c.in-Some.cell) c.in-Some.ensures.items c.loop-cell.invariant).0

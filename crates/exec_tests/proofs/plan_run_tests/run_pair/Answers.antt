@@ -40,8 +40,8 @@ is_graph = record {
     few_nodes = omega arith;
     few_edges = omega arith;
     edges = λ e lt. subst (IsEdge (1 ∷ 2 ∷ [])) (sym (only_wire e lt)) is_edge;
-    inputs_once = λ e f le lf _ _. omega (arith, le, lf);
-    outputs_once = λ e f le lf _ _. omega (arith, le, lf);
+    inputs_once = λ e f le lf _. omega (arith, le, lf);
+    outputs_once = λ e f le lf _. omega (arith, le, lf);
   };
   gapless = has_no_gap;
 }
