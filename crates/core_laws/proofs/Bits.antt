@@ -1,5 +1,5 @@
 -- The bits of node words, and the ends of edges.
-use Rattle.core_laws.proofs.Imports.{Bool, None, Option, Some, Wire, WordHolds, ap, arith, bit_at, bit_at-lt, bit_at-pow_other, bit_at-pow_same, bit_at-zero, bit_at_end, bit_at_or, bit_at_xor, bit_of, bit_or, bit_xor, both_ways, cases_Bool, cases_eq, end_of, eqb, eqb-true, false, inl, inr, is_end, is_node_bit, is_set, is_unborn, max, names, not, peer_in, refl, subst, sym, true, wire_ok, ℕ, ◌+◌, ◌<◌, ◌^◌, ◌∙◌, ◌≡◌, ◌≢◌, ◌≤◌}
+use Rattle.core_laws.proofs.Imports.{Bool, Option, Some, Wire, WordHolds, ap, arith, bit_at, bit_at-lt, bit_at-pow_other, bit_at-pow_same, bit_at-zero, bit_at_end, bit_at_or, bit_at_xor, bit_of, bit_or, bit_xor, both_ways, cases_Bool, cases_eq, end_of, eqb, eqb-true, false, inl, inr, is_end, is_node_bit, is_set, is_unborn, max, names, not, peer_in, refl, subst, sym, true, wire_ok, ℕ, ◌+◌, ◌<◌, ◌^◌, ◌∙◌, ◌≡◌, ◌≢◌, ◌≤◌}
 
 -- no bit of 0 is set
 pub zero-clear : (k : ℕ) → is_set 0 k ≡ false
@@ -8,9 +8,6 @@ zero-clear k = grind (arith, bit_at-zero k)
 -- a power of 2 has one bit
 pub pow-clear : (k i : ℕ) → i ≢ k → is_set (2 ^ k) i ≡ false
 pow-clear k i ne = grind (arith, bit_at-pow_other k i ne)
-
-pow-only : (k i : ℕ) → is_set (2 ^ k) i ≡ true → i ≡ k
-pow-only k i h = elim (cases_eq i k) [ inl e ↦ e | inr ne ↦ grind (arith, pow-clear k i ne) ]
 
 -- the other bits of a word that was told stay
 pub or-other : (w k i : ℕ) → i ≢ k → is_set (bit_or w (2 ^ k)) i ≡ is_set w i
@@ -22,27 +19,16 @@ or-here w k = grind (arith, bit_at_or w (2 ^ k) k, bit_at-pow_same k, bit_at-lt 
 
 -- the bits that were set stay
 pub or-more : (w k i : ℕ) → is_set w i ≡ true → is_set (bit_or w (2 ^ k)) i ≡ true
-or-more w k i h = elim (cases_eq i k) [
-  | inl e ↦ subst (λ z. is_set (bit_or w (2 ^ k)) z ≡ true) (sym e) (or-here w k)
-  | inr ne ↦ or-other w k i ne ∙ h
-]
+or-more w k i h = grind (arith, cases_eq, or-here, or-other)
 
 -- a word with one bit, of a node that is held where this is the bit held
 pub word-one : (k : ℕ) (on : Bool) → is_node_bit k ≡ true → is_set (2 ^ k) 62 ≡ on
     → WordHolds (2 ^ k) on
-word-one k on named held = record {
-  held = held;
-  lone = λ i j _ _ ne z. pow-clear k j (λ e. ne (pow-only k i z ∙ sym e));
-  bits = λ i z. ap is_node_bit (pow-only k i z) ∙ named;
-}
+word-one k on named held = grind (arith, pow-clear, cases_eq)
 
 -- the word of an idle node
 pub word-idle : WordHolds 0 false
-word-idle = record {
-  held = refl;
-  lone = λ i j _ _ _ _. zero-clear j;
-  bits = λ k z. absurd (both_ways _ (zero-clear k) z);
-}
+word-idle = grind (arith, zero-clear, both_ways)
 
 -- a word that was told of a port
 pub word-told : (w k : ℕ) (on : Bool) → k < 48 → WordHolds w on → WordHolds (bit_or w (2 ^ k)) on
@@ -114,21 +100,18 @@ word-born w on unborn h = let x = flip-lone w on unborn h in record {
 -- an end's bit is a port's, the end is a node, and the other end is another one
 pub end-within : (nodes : ℕ) (w : Wire) → wire_ok nodes w ≡ true → (b : Bool)
     → (bit_of b w < 48) × (end_of b w < nodes) × (end_of (not b) w ≢ end_of b w)
-end-within nodes w h true = (grind arith, grind arith, λ q. grind arith)
-end-within nodes w h false = (grind arith, grind arith, λ q. grind arith)
+end-within nodes w h b = grind arith
 
 -- what a step of the end n reads of its bit
 pub at-end : (nodes : ℕ) (w : Wire) → wire_ok nodes w ≡ true → (b : Bool) (n : ℕ) → end_of b w ≡ n
     → bit_at_end n (Some w) ≡ bit_of b w
-at-end nodes w h true n e = grind arith
-at-end nodes w h false n e = grind arith
+at-end nodes w h b n e = grind arith
 
 -- and of its peer, the end b
 pub peer-of : (nodes : ℕ) (w : Wire) → wire_ok nodes w ≡ true → (b : Bool) (n : ℕ)
     → end_of (not b) w ≡ n → (end_of b w ≡ peer_in n (Some w))
     × (bit_of b w ≡ bit_at_end (peer_in n (Some w)) (Some w))
-peer-of nodes w h true n e = (grind arith, grind arith)
-peer-of nodes w h false n e = (grind arith, grind arith)
+peer-of nodes w h b n e = grind arith
 
 -- the end b of an edge
 pub record EndOf (b : Bool) (n : ℕ) (x : Option Wire) : Type 0 where
@@ -138,24 +121,16 @@ pub record EndOf (b : Bool) (n : ℕ) (x : Option Wire) : Type 0 where
 
 -- where a node is an end there is a wire
 pub end-of : (b : Bool) (n : ℕ) (x : Option Wire) → is_end b n x ≡ true → EndOf b n x
-end-of b n None h = absurd (both_ways false refl h)
-end-of b n (Some w) h = record { wire = w; is = refl; end = eqb-true _ _ h }
+end-of b n x h = grind (arith, both_ways, eqb-true)
 
 -- a node that a wire names is one of its ends
 pub an-end : (n : ℕ) (x : Option Wire) → names n x ≡ true → (b : Bool) × EndOf b n x
-an-end n x h = elim (cases_Bool (is_end true n x)) [
-  | inl q ↦ (true, end-of true n x q)
-  | inr q ↦ (false, end-of false n x (grind arith))
-]
+an-end n x h = grind (arith, cases_Bool, end-of)
 
 -- the end of the end
 pub not-not : (b : Bool) (w : Wire) → end_of (not (not b)) w ≡ end_of b w
-not-not true w = refl
-not-not false w = refl
+not-not b w = grind arith
 
 -- what holds of an end and of the other one
 pub both-ends : (Q : Bool → Type 0) (b : Bool) → Q b → Q (not b) → (a : Bool) → Q a
-both-ends Q true x y true = x
-both-ends Q true x y false = y
-both-ends Q false x y true = y
-both-ends Q false x y false = x
+both-ends Q b x y a = grind arith

@@ -1,5 +1,5 @@
 -- Every step keeps the laws: of edges, of nodes, and of tokens.
-use Rattle.core_laws.proofs.Imports.{Act, AreEdgesOnce, Bool, Close, CoreState, EdgeHolds, Edges, EndTold, EndsAreTold, Finish, Flags, Laws, List, NodeState, NodeStateHolds, Nodes, None, Option, PortState, Pull, Push, Sees, Sight, Sizes, Some, Step, TokensHold, Unwant, Want, Wire, WireHolds, WordHolds, [], acted, acting_end, adding, after, and_parts, ap, arith, bit_at_end, bit_of, bit_or, born, both_ways, cases_Bool, cases_eq, changed, cond, cond_both, counts, edges_of, end_of, eqb, eqb-true, false, fits, flags_at, fresh_sight, get_or-le-sum_by, get_or-set_other, get_or-set_same, get_or_default, has, inl, inr, is_edge, is_excused, is_held_end, is_none, is_none_of, is_over, is_set, is_unborn, is_updated, knows, lacks, learned, learning, left, length, length-set, looked, map-append, marked, may, may_act, may_wire, names, ne_eqb, no_node, no_port, node_at, node_of, not, or_cases, or_left, or_right, peer_in, port_after, port_at, port_of, put_node, refl, seeing, set, set-get_or, spent, subst, sum_by-le, sum_by-set, sym, taken, telling, tells, true, weight, wire_ok, wiring, with_bit, with_tokens, without, ℕ, ◌&&◌, ◌*◌, ◌+◌, ◌-◌, ◌<◌, ◌^◌, ◌||◌, ◌∙◌, ◌∷◌, ◌≡◌, ◌≢◌, ◌≤◌}
+use Rattle.core_laws.proofs.Imports.{Act, Bool, Close, CoreState, EdgeHolds, Edges, EndTold, EndsAreTold, Finish, Flags, Laws, List, NodeState, NodeStateHolds, Nodes, None, Option, PortState, Pull, Push, Sees, Sizes, Some, Step, TokensHold, Unwant, Want, Wire, WireHolds, WordHolds, [], acted, acting_end, adding, after, and_parts, ap, arith, bit_at_end, bit_of, bit_or, born, both_ways, cases_Bool, cases_eq, changed, cond, cond_both, counts, edges_of, end_of, eqb, eqb-true, false, flags_at, get_or-le-sum_by, get_or-set_other, get_or-set_same, get_or_default, has, inl, inr, is_edge, is_excused, is_held_end, is_none, is_none_of, is_over, is_set, is_unborn, is_updated, knows, lacks, learned, learning, left, length, length-set, looked, map-append, marked, may, may_act, may_wire, names, ne_eqb, no_node, no_port, node_at, node_of, not, or_cases, or_left, or_right, peer_in, port_after, port_at, port_of, put_node, refl, seeing, set, set-get_or, spent, subst, sum_by-le, sum_by-set, sym, taken, telling, tells, true, weight, wire_ok, wiring, with_bit, with_tokens, without, ℕ, ◌&&◌, ◌*◌, ◌+◌, ◌-◌, ◌<◌, ◌^◌, ◌||◌, ◌∙◌, ◌∷◌, ◌≡◌, ◌≢◌, ◌≤◌}
 use Rattle.chunk_data.proofs.Places.{at-set}
 use Rattle.core_laws.specs.declared.types.Step.TheVariants as step
 use Rattle.core_laws.proofs.Lists.{has-filter, once-filter, has-last, has-adding, once-last, once-adding, edges-seeing, seeing-here, seeing-other, flags-unknown, flags-last}
@@ -19,11 +19,7 @@ Holds s nodes e p = EdgeHolds s nodes e p × EndsAreTold nodes e p.wire p.flags
 -- a step that changes neither ports nor nodes
 same-kept : (c : CoreState) (stopped : Bool) → Edges c → Nodes c
     → Kept c (record c { stopped = stopped })
-same-kept c stopped edges nodes = record {
-  edges = record { count = edges.count; known = edges.known; each = edges.each };
-  nodes = record { number = nodes.number; each = nodes.each; told = nodes.told };
-  tokens = λ t. record { pending = t.pending; few = t.few };
-}
+same-kept c stopped edges nodes = grind arith
 
 -- ---- a change of the view of one node, and of ports
 
@@ -107,19 +103,8 @@ module _ (c : CoreState) (n : ℕ) (nd : NodeState) (inside : n < length c.nodes
       → wire_ok c.sizes.nodes w ≡ true → end_of b w ≡ n → Q b w nd (node_at c (end_of (not b) w))
       → Q (not b) w (node_at c (end_of (not b) w)) nd → (a : Bool) (v : Wire) → v ≡ w
       → Q a v (now (end_of a v)) (now (end_of (not a) v))
-  at-ends Q b w ok at x y a v t = subst
-      (λ z. Q a z (now (end_of a z)) (now (end_of (not a) z))) (sym t)
-      (both-ends (λ a. Q a w (now (end_of a w)) (now (end_of (not a) w))) b
-      (subst (λ (z : NodeState × NodeState). Q b w z.0 z.1) (λ i. (sym mine i, sym peer i)) x)
-      (subst (λ (z : NodeState × NodeState). Q (not b) w z.0 z.1)
-      (λ i. (sym peer i, sym (ap now (not-not b w) ∙ mine) i)) y) a)
-    where
-      mine : now (end_of b w) ≡ nd
-      mine = ap now at ∙ get_or-set_same c.nodes n nd no_node inside
-
-      peer : now (end_of (not b) w) ≡ node_at c (end_of (not b) w)
-      peer = get_or-set_other c.nodes n (end_of (not b) w) nd no_node
-          (λ z. (end-within c.sizes.nodes w ok b).2 (z ∙ sym at))
+  at-ends Q b w ok at x y a v t =
+      grind (arith, both-ends, not-not, get_or-set_same, get_or-set_other, end-within)
 
   -- the edge e, whose port p the node leaves as q
   moved : (e : ℕ) (b : Bool) (p q : PortState) (f : Flags) (owes : Bool)
@@ -153,27 +138,13 @@ module _ (c : CoreState) (n : ℕ) (nd : NodeState) (inside : n < length c.nodes
       same v z = let u = m.wire in let y = x.is in cc
 
       was : Sees b p.flags (flags_at e old.seen)
-      was = subst (λ k. Sees b p.flags (flags_at e (node_at c k).seen)) x.end
-          (h.0.sees b x.wire x.is)
+      was = grind (arith, sees)
 
       mine : EndTold nd (node_at c (end_of (not b) x.wire)) e q.flags b x.wire
-      mine l = let z = subst (λ g. lacks b q.flags g ≡ true) sees l in
-          elim (or_cases _ _ (subst (λ k. EndTold (node_at c k) (node_at c (end_of (not b) x.wire))
-          e p.flags b x.wire) x.end (h.1 b x.wire x.is) (m.lacks_less z))) [
-            | inl y ↦ or_left _ _ (excused z (bit_of b x.wire) y)
-            | inr y ↦ or_right _ _ y
-          ]
+      mine l = grind (arith, sees, or_cases, or_left, or_right)
 
       theirs : EndTold (node_at c (end_of (not b) x.wire)) nd e q.flags (not b) x.wire
-      theirs l = elim (cases_Bool owes) [
-        | inl o ↦ or_right _ _ (owed o)
-        | inr o ↦ elim (or_cases _ _ (subst (λ k. EndTold (node_at c (end_of (not b) x.wire))
-            (node_at c k) e p.flags (not b) x.wire) (not-not b x.wire ∙ x.end)
-            (h.1 (not b) x.wire x.is) (m.peer_lacks_less o _ l))) [
-              | inl y ↦ or_left _ _ y
-              | inr y ↦ or_right _ _ (debts y)
-            ]
-      ]
+      theirs l = grind (arith, or_right, or_cases, or_left, cases_Bool owes, not-not b x.wire)
 
   -- a step that changes no sight: what it owed it owes
   view-kept : (p : ℕ) → nd.seen ≡ old.seen → nd.owes ≡ old.owes → NodeStateHolds nd
@@ -192,23 +163,16 @@ module _ (c : CoreState) (n : ℕ) (nd : NodeState) (inside : n < length c.nodes
 
 -- ---- steps on ports
 
--- debts and what is unlooked, after a step that may owe a telling or have looked
-owing-has : (t : Bool) (e d : ℕ) (l : List ℕ)
-    → has d (cond t (adding e l) l) ≡ (has d l || (t && eqb e d))
-owing-has true e d l = has-adding e d l
-owing-has false e d l = grind arith
-
 owing-more : (t : Bool) (e d : ℕ) (l : List ℕ) → has d l ≡ true
     → has d (cond t (adding e l) l) ≡ true
-owing-more t e d l h = grind (arith, owing-has t e d l)
+owing-more t e d l h = grind (arith, has-adding)
 
 owing-here : (t : Bool) (e : ℕ) (l : List ℕ) → t ≡ true → has e (cond t (adding e l) l) ≡ true
-owing-here t e l h = grind (arith, owing-has t e e l)
+owing-here t e l h = grind (arith, has-adding)
 
 looking-has : (t : Bool) (e d : ℕ) (l : List ℕ)
     → has d (cond t (without e l) l) ≡ (not (t && eqb d e) && has d l)
-looking-has true e d l = has-filter (λ d. not (eqb d e)) l d
-looking-has false e d l = refl
+looking-has t e d l = grind (arith, has-filter)
 
 -- the node's view after it looked at e, or acted on it
 abbrev viewing : ℕ → Flags → Bool → Bool → NodeState → NodeState
@@ -220,21 +184,16 @@ viewing e f looks owes nd = record nd {
 
 viewing-holds : (e : ℕ) (f : Flags) (looks owes : Bool) (nd : NodeState) → nd.held ≡ true
     → knows e nd.seen ≡ true → NodeStateHolds nd → NodeStateHolds (viewing e f looks owes nd)
-viewing-holds e f looks owes nd held known h = record {
-  word = h.word;
-  owes = λ d z. let q = ap (has d) (edges-seeing e f nd.seen) in
-      let o = owing-has owes e d nd.owes in elim (cases_eq e d) [
-        | inl t ↦ let k = subst (λ i. knows i nd.seen ≡ true) t known in grind (arith, q, k, held)
-        | inr ne ↦ grind (arith, q, o, z, h.owes d, held)
-      ];
-  unlooked = λ d z. let q = ap (has d) (edges-seeing e f nd.seen) in
-      grind (arith, q, z, looking-has looks e d nd.unlooked, h.unlooked d);
-  each_once = let o = h.each_once in (
-    subst (λ l. AreEdgesOnce l) (sym (edges-seeing e f nd.seen)) o.0,
-    cond_both looks _ _ (λ l. AreEdgesOnce l) (λ _. once-filter _ nd.unlooked o.1) (λ _. o.1),
-    cond_both owes _ _ (λ l. AreEdgesOnce l) (λ _. once-adding e nd.owes o.2) (λ _. o.2),
-  );
-}
+viewing-holds e f looks owes nd held known h = grind (
+  arith,
+  edges-seeing,
+  cases_eq,
+  looking-has,
+  cond_both,
+  once-filter,
+  once-adding,
+  has-adding,
+)
 
 -- a step of the held end b of the edge e, the node n, which leaves the ports as ps
 moved-kept : (c : CoreState) (n e : ℕ) (b : Bool) (ps : List PortState) (q : PortState) (f : Flags)
@@ -306,8 +265,7 @@ look-kept c n e g edges nodes =
 -- ---- steps on node words
 
 no-wire : (x : Option Wire) → is_none x ≡ true → x ≡ None
-no-wire None h = refl
-no-wire (Some w) h = grind arith
+no-wire x h = grind arith
 
 nonzero : (w k : ℕ) → is_set w k ≡ true → eqb w 0 ≡ false
 nonzero w k h = grind (arith, zero-clear k)
@@ -323,8 +281,7 @@ held-word c n h nodes = let x = (nodes.each n).word in let w = (node_at c n).wor
 -- the node with another word and other tokens
 reworded : (nd : NodeState) (w t : ℕ) → WordHolds w nd.held → NodeStateHolds nd
     → NodeStateHolds (record nd { word = w; tokens = t })
-reworded nd w t word h =
-    record { word = word; owes = h.owes; unlooked = h.unlooked; each_once = h.each_once }
+reworded nd w t word h = grind arith
 
 -- begin and again
 taken-kept : (c : CoreState) (n k : ℕ) → n < length c.nodes → k ≤ (node_at c n).tokens
@@ -409,8 +366,7 @@ counted-kept c n k p inside count edges nodes = view-kept c n (record (node_at c
 -- a node with a token: some token is pending
 pub some-pending : (c : CoreState) (n : ℕ) → n < length c.nodes → 0 < (node_at c n).tokens
     → TokensHold c → 0 < c.pending
-some-pending c n inside some h = let z = get_or-le-sum_by weight c.nodes n no_node inside in
-    let p = h.pending in omega (arith, z, p, some)
+some-pending c n inside some h = grind (arith, get_or-le-sum_by)
 
 -- ---- mark
 
@@ -461,8 +417,7 @@ marks-of c n e g edges nodes =
     at : (b : Bool) (w : Wire) → (port_at c e).wire ≡ Some w → end_of (not b) w ≡ n
         → (end_of b w ≡ peer_in n (port_at c e).wire)
         × (bit_of b w ≡ bit_at_end (peer_in n (port_at c e).wire) (port_at c e).wire)
-    at b w q t = subst (λ x. (end_of b w ≡ peer_in n x) × (bit_of b w ≡ bit_at_end (peer_in n x) x))
-        (sym q) (peer-of c.sizes.nodes w (sound w q) b n t)
+    at b w q t = grind (arith, peer-of, sound)
 
 mark-kept : (c : CoreState) (n e m k : ℕ) → n < length c.nodes → 0 < (node_at c n).tokens
     → OwesMark c n e m k → Edges c → Nodes c → Kept c (marked c n e m k)
@@ -494,20 +449,11 @@ mark-kept c n e m k inside some x edges nodes = record {
 
     telling-holds : (nd : NodeState) → NodeStateHolds nd
         → NodeStateHolds (telling e (spent md.word) nd)
-    telling-holds nd h = let t = λ (d : ℕ). not (eqb d e) in record {
-      word = h.word;
-      owes = λ d z. let y = has-filter t nd.owes d in grind (arith, y, z, h.owes d);
-      unlooked = h.unlooked;
-      each_once = let o = h.each_once in (o.0, o.1, once-filter t nd.owes o.2);
-    }
+    telling-holds nd h = grind (arith, has-filter, once-filter)
 
     set-bit : (b : Bool) (w : Wire) → (port_at c e).wire ≡ Some w → end_of (not b) w ≡ n
         → is_set (node_at mid (end_of b w)).word (bit_of b w) ≡ true
-    set-bit b w q t = let z = x.bit b w q t in
-        subst (λ (y : ℕ × ℕ). is_set (node_at mid y.0).word y.1 ≡ true)
-        (λ i. (sym z.0 i, sym z.1 i))
-        (ap (λ y. is_set y.word k) (get_or-set_same c.nodes m (with_bit k md) no_node x.peer_in)
-        ∙ or-here md.word k)
+    set-bit b w q t = grind (arith, mid, get_or-set_same, md, or-here)
 
     last : Kept mid (marked c n e m k)
     last = subst (λ y. Kept mid (record c {
@@ -534,24 +480,12 @@ mark-kept c n e m k inside some x edges nodes = record {
 learning-holds : (e : ℕ) (nd : NodeState) → knows e nd.seen ≡ false → NodeStateHolds nd
     → NodeStateHolds (learning e nd)
 learning-holds e nd unknown h =
-    let k = map-append (λ (s : Sight). s.edge) nd.seen (fresh_sight e ∷ []) in
-    let known = edges_of nd.seen in record {
-      word = h.word;
-      owes = λ d z. let q = ap (has d) k in grind (arith, q, has-last e d known, h.owes d, z);
-      unlooked = λ d z. let q = ap (has d) k in
-          grind (arith, q, has-last e d known, has-adding e d nd.unlooked, h.unlooked d, z);
-      each_once = let o = h.each_once in (
-        subst (λ l. AreEdgesOnce l) (sym k) (once-last e known unknown o.0),
-        once-adding e nd.unlooked o.1,
-        o.2,
-      );
-    }
+    grind (arith, map-append, has-last, has-adding, once-last, once-adding)
 
 -- what a node knows that learned e
 learning-knows : (e d : ℕ) (nd : NodeState)
     → knows d (learning e nd).seen ≡ (knows d nd.seen || eqb e d)
-learning-knows e d nd = ap (has d) (map-append (λ (s : Sight). s.edge) nd.seen
-    (fresh_sight e ∷ [])) ∙ has-last e d (edges_of nd.seen)
+learning-knows e d nd = grind (arith, map-append, has-last)
 
 -- a node that learned an edge of the state knows no other than these
 learning-known : (c : CoreState) (n e : ℕ) → e < length c.ports → Edges c → (d : ℕ)
@@ -620,10 +554,7 @@ wire-kept c n e w g none edges nodes =
 
     -- no node knows an edge without a wire
     unknown : (m : ℕ) → knows e (node_at c m).seen ≡ false
-    unknown m = elim (cases_Bool (knows e (node_at c m).seen)) [
-      | inl z ↦ absurd (both_ways false refl (ap (names m) (sym none) ∙ old.learned m z))
-      | inr z ↦ z
-    ]
+    unknown m = grind (arith, cases_Bool, both_ways, old)
 
     -- so each sees it with no flag, as it is
     flags : (m : ℕ) → flags_at e (node_of (set c.nodes n nd) m).seen ≡ (port_at c e).flags
@@ -691,19 +622,11 @@ each_step_keeps c n step.See g h k = same-kept c c.stopped h k
 
 -- no step changes the sizes
 pub sizes-kept : (c : CoreState) (n : ℕ) (s : Step) → (after c n s).sizes ≡ c.sizes
-sizes-kept c n step.Rest = grind arith
-sizes-kept c n (step.Wire e w) = grind arith
-sizes-kept c n (step.Wired e) = grind arith
-sizes-kept c n s = refl
+sizes-kept c n s = grind arith
 
 -- all of them
 pub laws-kept : (c : CoreState) (n : ℕ) (s : Step) → may c n s ≡ true → Laws c → Laws (after c n s)
-laws-kept c n s g h = let k = each_step_keeps c n s g h.edges h.nodes in record {
-  fit = subst (λ z. fits z ≡ true) (sym (sizes-kept c n s)) h.fit;
-  edges = k.edges;
-  nodes = k.nodes;
-  tokens = k.tokens h.tokens;
-}
+laws-kept c n s g h = grind (arith, each_step_keeps c n s g h.edges h.nodes, sizes-kept c n s)
 
 -- the pending number is at most three for each node
 pub pending-most : (c : CoreState) → TokensHold c → c.pending ≤ length c.nodes * 3

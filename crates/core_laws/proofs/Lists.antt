@@ -1,5 +1,5 @@
 -- Places in lists, sets of edges as lists, and sights in lists.
-use Rattle.core_laws.proofs.Imports.{AreEdgesOnce, AreOnce-append, AreOnce-head, AreOnce-tail, Bool, Flags, List, Sight, [], adding, arith, both_ways, cond_both, edges_of, eq-eqb, eqb, false, filter, flags_at, get_or, has, knows, length, list_any_at, ne_eqb, no_flags, refl, seeing, set, suc, true, ℕ, ◌&&◌, ◌++◌, ◌<◌, ◌==◌, ◌||◌, ◌∷◌, ◌≡◌, ◌≢◌}
+use Rattle.core_laws.proofs.Imports.{AreEdgesOnce, AreOnce-append, AreOnce-head, AreOnce-tail, Bool, Flags, List, Sight, [], adding, arith, both_ways, cond_both, edges_of, eq-eqb, eqb, false, filter, flags_at, get_or, has, knows, length, list_any_at, ne_eqb, no_flags, refl, seeing, suc, true, ℕ, ◌&&◌, ◌++◌, ◌<◌, ◌||◌, ◌∷◌, ◌≡◌, ◌≢◌}
 
 -- ---- sets
 
@@ -36,9 +36,7 @@ once-tail e l h = AreOnce-tail e l h
 -- numbers that stand once, and one more that isn't among them
 pub once-cons : (e : ℕ) (l : List ℕ) → has e l ≡ false → AreEdgesOnce l → AreEdgesOnce (e ∷ l)
 unfolding AreEdgesOnce
-once-cons e l none h = AreOnce-append (λ d. d ≡ e) (e ∷ []) l (λ i j li lj _. omega
-    (arith, li, lj)) h (λ j lt. grind (arith, lt))
-    (λ k lt q. both_ways _ none (list_any_at (λ d. d == e) l k 0 lt (eq-eqb _ _ q)))
+once-cons e l none h = grind (arith, AreOnce-append, both_ways, list_any_at, eq-eqb)
 
 -- the same with one more at the end
 pub once-last : (e : ℕ) (l : List ℕ) → has e l ≡ false → AreEdgesOnce l → AreEdgesOnce (l ++ e ∷ [])
@@ -60,8 +58,7 @@ has-adding e d l = grind (arith, has-last e d l)
 
 -- a set with one more names each at most once
 pub once-adding : (e : ℕ) (l : List ℕ) → AreEdgesOnce l → AreEdgesOnce (adding e l)
-once-adding e l h =
-    cond_both (has e l) _ _ (λ l. AreEdgesOnce l) (λ _. h) (λ none. once-last e l none h)
+once-adding e l h = grind (arith, cond_both, once-last)
 
 -- ---- sights
 

@@ -1,5 +1,5 @@
 -- The state at the start meets the laws.
-use Rattle.core_laws.proofs.Imports.{AllPass-from_list_all, AreEdgesOnce, Bool, EdgeHolds, Edges, Flags, Laws, List, NodeState, NodeStateHolds, Nodes, None, Sees, Sight, Sizes, Some, TokensHold, Wire, WordHolds, [], and_parts, ap, arith, both_ways, cases_lt, cond_both, counts, edges_of, end_of, false, filter, fits, flags_at, fresh_sight, get_or, get_or-map-range_with_len, get_or_past, has, has_output_edge, inl, inr, is_end_among, is_reserved_node, knows, lacks, leb, length, length-map-range_with_len, ltb, map, names, no_flags, no_node, no_port, no_wire, node_at, port_at, range_with_len, refl, reserved_edge_count, start, start_node, start_port, start_word, subst, suc, sum_by, sum_by-cons, sym, true, weight, wire_fits, wire_ok, zero, ℕ, ◌&&◌, ◌+◌, ◌<◌, ◌^◌, ◌∙◌, ◌∷◌, ◌≡◌, ◌≤◌}
+use Rattle.core_laws.proofs.Imports.{AllPass-from_list_all, AreEdgesOnce, Bool, EdgeHolds, Edges, Flags, Laws, List, NodeState, NodeStateHolds, Nodes, Sees, Sight, Sizes, Some, TokensHold, Wire, WordHolds, [], and_parts, ap, arith, both_ways, cases_lt, cond_both, counts, edges_of, end_of, false, filter, fits, flags_at, fresh_sight, get_or, get_or-map-range_with_len, get_or_past, has, is_end_among, knows, lacks, leb, length, length-map-range_with_len, ltb, map, names, no_flags, no_node, no_wire, node_at, port_at, range_with_len, refl, reserved_edge_count, start, start_node, start_port, start_word, subst, suc, sum_by, sum_by-cons, sym, true, weight, wire_fits, wire_ok, zero, ℕ, ◌&&◌, ◌+◌, ◌<◌, ◌∙◌, ◌∷◌, ◌≡◌, ◌≤◌}
 use Rattle.core_laws.proofs.Lists.{has-filter, once-cons, once-filter, once-none}
 use Rattle.core_laws.proofs.Bits.{word-one, word-idle}
 use Rattle.core_laws.proofs.Moves.{same-flags, lacks-none}
@@ -13,18 +13,13 @@ ports-length s = length-map-range_with_len (start_port s) 0 _
 
 port-start : (s : Sizes) (e : ℕ) → e < length (start s).ports
     → port_at (start s) e ≡ start_port s e
-port-start s e i = get_or-map-range_with_len (start_port s) 0 _ e e no_port
-    (let n = ports-length s in omega (arith, n, i)) (omega arith)
+port-start s e i = grind (arith, get_or-map-range_with_len, ports-length)
 
 -- what holds of each node at the start, and of none
 pub all-nodes : (s : Sizes) (P : ℕ → NodeState → Type 0) → ((m : ℕ) → P m (start_node s m))
     → ((m : ℕ) → P m no_node) → (m : ℕ) → P m (node_at (start s) m)
-all-nodes s P here past m = elim (cases_lt m s.nodes) [
-  | inl l ↦ subst (P m) (sym (get_or-map-range_with_len (start_node s) 0 s.nodes m m no_node l
-      (omega arith))) (here m)
-  | inr l ↦ subst (P m) (sym (get_or_past (start s).nodes m no_node
-      (let k = length-map-range_with_len (start_node s) 0 s.nodes in omega (arith, k, l)))) (past m)
-]
+all-nodes s P here past m =
+    grind (arith, cases_lt, get_or-map-range_with_len, get_or_past, length-map-range_with_len)
 
 -- ---- views
 
@@ -44,8 +39,7 @@ has-range a (suc n) e = grind (arith, has-range (a + 1) n e)
 
 once-range : (a n : ℕ) → AreEdgesOnce (range_with_len a n)
 once-range a zero = once-none
-once-range a (suc n) =
-    once-cons a _ (grind (arith, has-range (a + 1) n a)) (once-range (a + 1) n)
+once-range a (suc n) = grind (arith, once-cons, has-range, once-range (a + 1) n)
 
 -- a node knows the wires that name it
 pub learned-start : (s : Sizes) (e m : ℕ) → knows e (node_at (start s) m).seen ≡ true
@@ -65,20 +59,12 @@ no-flags s e =
     (λ m. flags-fresh e (is_end_among m s.wires) (range_with_len 0 (length s.wires))) (λ _. refl)
 
 word-start : (s : Sizes) (n : ℕ) → WordHolds (start_word s n) false
-word-start s n = cond_both (is_reserved_node n s.reserves) (2 ^ 61) _ (λ w. WordHolds w false)
-    (λ _. word-one 61 false refl refl) (λ _. cond_both (has_output_edge n s.wires) 0 (2 ^ 60)
-    (λ w. WordHolds w false) (λ _. word-idle) (λ _. word-one 60 false refl refl))
+word-start s n =
+    grind (arith, cond_both, word-idle, word-one 61 false refl refl, word-one 60 false refl refl)
 
 node-start : (s : Sizes) (n : ℕ) → NodeStateHolds (start_node s n)
-node-start s n = record {
-  word = word-start s n;
-  owes = λ e z. absurd (both_ways false refl z);
-  unlooked = λ e z. z;
-  each_once = let all = range_with_len 0 (length s.wires) in let p = is_end_among n s.wires in
-      let o = once-filter (λ e. p (fresh_sight e)) all (once-range 0 (length s.wires)) in
-      let known = subst (λ l. AreEdgesOnce l) (sym (edges-fresh p all)) o in
-      (known, known, once-none);
-}
+node-start s n =
+    search (arith, word-start, both_ways, once-filter, once-range, edges-fresh, once-none)
 
 -- ---- the laws
 
@@ -88,10 +74,7 @@ wire-in s e l = grind arith
 
 wire-is : (s : Sizes) (e : ℕ) (w : Wire) → (start_port s e).wire ≡ Some w
     → (e < length s.wires) × (get_or s.wires e no_wire ≡ w)
-wire-is s e w q = elim (cases_lt e (length s.wires)) [
-  | inl l ↦ (l, let k = wire-in s e l in cc)
-  | inr l ↦ absurd (let k : (start_port s e).wire ≡ None = grind (arith, l) in cc)
-]
+wire-is s e w q = grind (arith, cases_lt, wire-in)
 
 wire-sound : (s : Sizes) (e : ℕ) → fits s ≡ true → e < length s.wires
     → wire_ok s.nodes (get_or s.wires e no_wire) ≡ true
@@ -135,9 +118,7 @@ start-nodes s = record {
 total-start : (s : Sizes) (l : List ℕ)
     → sum_by counts (map (start_word s) l) ≡ sum_by weight (map (start_node s) l)
 total-start s [] = refl
-total-start s (x ∷ xs) = let a = sum_by-cons counts (start_word s x) (map (start_word s) xs) in
-    let b = sum_by-cons weight (start_node s x) (map (start_node s) xs) in
-    let z = total-start s xs in omega (arith, a, b, z)
+total-start s (x ∷ xs) = search (arith, sum_by-cons, total-start s xs)
 
 pub start-tokens : (s : Sizes) → TokensHold (start s)
 start-tokens s = record {
@@ -147,5 +128,4 @@ start-tokens s = record {
 
 -- all of them
 pub start-laws : (s : Sizes) → fits s ≡ true → Laws (start s)
-start-laws s fit =
-    record { fit = fit; edges = start-edges s fit; nodes = start-nodes s; tokens = start-tokens s }
+start-laws s fit = search (arith, start-edges, start-nodes, start-tokens)
