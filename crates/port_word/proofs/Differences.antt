@@ -236,8 +236,4 @@ changed-by-one p q c e = record { calls = c ∷ []; gives = e }
 
 pub changed-by-both : (p q r : Picture) → ChangedByCalls p q → ChangedByCalls q r
     → ChangedByCalls p r
-changed-by-both p q r c d = record {
-  calls = c.calls ++ d.calls;
-  gives = d.gives ∙ ap (λ x. after_calls d.calls x) c.gives
-      ∙ sym (after_calls-append c.calls d.calls p);
-}
+changed-by-both p q r c d = grind (arith, after_calls-append c.calls d.calls p)

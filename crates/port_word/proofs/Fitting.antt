@@ -1,5 +1,5 @@
 -- Each call leaves room for the actions that may still come.
-use Rattle.port_word.proofs.Imports.{Action, Bool, Close, Finish, Fits, Flags, InputPort, IsSound, List, None, Option, Picture, Pull, Push, ShowsInFlags, Table, [], action_room, arith, closed, emptied, false, get_or, get_or_append_left, get_or_default, holds_data, in_count, input_at, is_some, length, length-append, length-replicate, length-set, new_input, new_picture, no_flags, no_input, noted, noted_want, out_count, output_at, over_flags, replicate, set, subst, suc, sym, true, with_actions, with_input, with_needed, with_output, zero, ℕ, ◌++◌, ◌+◌, ◌<◌, ◌∙◌, ◌∷◌, ◌≡◌, ◌≤◌}
+use Rattle.port_word.proofs.Imports.{Action, Bool, Close, Finish, Fits, Flags, InputPort, IsSound, List, Picture, Pull, Push, ShowsInFlags, Table, [], action_room, arith, closed, emptied, false, get_or, get_or_append_left, get_or_default, holds_data, in_count, input_at, is_some, length, length-append, length-replicate, length-set, new_input, new_picture, no_flags, no_input, noted, noted_want, out_count, output_at, over_flags, replicate, set, subst, suc, sym, true, with_actions, with_input, with_needed, with_output, zero, ℕ, ◌++◌, ◌+◌, ◌<◌, ◌∙◌, ◌∷◌, ◌≡◌, ◌≤◌}
 use Rattle.port_word.proofs.Slots.{each-map}
 use Rattle.port_word.proofs.Soundness.{Follows, done-follows, actions-fit, sound-pull, sound-close, sound-push, sound-finish, sound-want}
 
@@ -19,37 +19,38 @@ pub outputs-below : (p q : Picture) (n : ℕ) → p ≡ q → out_count q ≤ n 
 unfolding out_count
 outputs-below p q n e h = subst (λ r. length r.outputs ≤ n) (sym e) h
 
-fits-input : (p : Picture) (i : ℕ) (x : InputPort) (actions : List Action) (old new : ℕ)
-    → Fits p old → IsSound (with_actions (with_input p i x) actions) → old ≤ new
-    → Fits (with_actions (with_input p i x) actions) new
+-- what a call makes of an input fits, where it is sound with the actions that are noted
+pub fits-input : (p : Picture) (i : ℕ) (x : InputPort) (noted actions : List Action) (old new : ℕ)
+    → Fits p old → IsSound (with_actions (with_input p i x) noted) → actions ≡ noted → old ≤ new
+    → Fits (record { inputs = set p.inputs i x; outputs = p.outputs; actions = actions }) new
 unfolding with_input with_actions
-fits-input p i x actions old new f s le = search (arith, length-set)
+fits-input p i x noted actions old new f s e le = search (arith, length-set)
 
-fits-output : (p : Picture) (o : ℕ) (x : Flags) (actions : List Action) (old new : ℕ) → Fits p old
-    → IsSound (with_actions (with_output p o x) actions) → old ≤ new
-    → Fits (with_actions (with_output p o x) actions) new
+pub fits-output : (p : Picture) (o : ℕ) (x : Flags) (noted actions : List Action) (old new : ℕ)
+    → Fits p old → IsSound (with_actions (with_output p o x) noted) → actions ≡ noted → old ≤ new
+    → Fits (record { inputs = p.inputs; outputs = set p.outputs o x; actions = actions }) new
 unfolding with_output with_actions
-fits-output p o x actions old new f s le = search (arith, length-set)
+fits-output p o x noted actions old new f s e le = search (arith, length-set)
 
-room-input : (p : Picture) (i : ℕ) (x : InputPort) (actions : List Action) (old : ℕ) → Fits p old
-    → IsSound (with_actions (with_input p i x) actions) → length actions ≤ old
+pub room-input : (p : Picture) (i : ℕ) (x : InputPort) (actions : List Action) (old : ℕ)
+    → Fits p old → IsSound (with_actions (with_input p i x) actions) → length actions ≤ old
 unfolding with_input with_actions in_count out_count
-room-input p i x actions old f s = omega (
-  arith,
-  f.room,
-  actions-fit (with_actions (with_input p i x) actions) s,
-  length-set p.inputs i x,
-)
+room-input p i x actions old f s =
+    grind (arith, actions-fit (with_actions (with_input p i x) actions) s, length-set p.inputs i x)
 
-room-output : (p : Picture) (o : ℕ) (x : Flags) (actions : List Action) (old : ℕ) → Fits p old
+pub room-output : (p : Picture) (o : ℕ) (x : Flags) (actions : List Action) (old : ℕ) → Fits p old
     → IsSound (with_actions (with_output p o x) actions) → length actions ≤ old
 unfolding with_output with_actions in_count out_count
-room-output p o x actions old f s = omega (
+room-output p o x actions old f s = grind (
   arith,
-  f.room,
   actions-fit (with_actions (with_output p o x) actions) s,
   length-set p.outputs o x,
 )
+
+-- an action more finds room where those with it do
+pub room-behind : (actions : List Action) (a : Action) (old : ℕ) → length (actions ++ a ∷ []) ≤ old
+    → length actions < old
+room-behind actions a old le = omega (arith, le, length-append actions (a ∷ []))
 
 here-input : (p : Picture) (i : ℕ) (x : InputPort) → i < length p.inputs → x ≡ get_or p.inputs i x
     → input_at p i ≡ x
@@ -61,175 +62,35 @@ here-output : (p : Picture) (o : ℕ) (f : Flags) → o < length p.outputs → f
 unfolding output_at
 here-output p o f lt e = get_or_default p.outputs o over_flags f lt ∙ sym e
 
-pulled : (p : Picture) (i : ℕ) (x : InputPort) (old : ℕ) → Fits p old → i < length p.inputs
+pub pulled : (p : Picture) (i : ℕ) (x : InputPort) (old : ℕ) → Fits p old → i < length p.inputs
     → x ≡ get_or p.inputs i x → x.flags.has_data ≡ true
     → IsSound (noted (with_input p i (emptied x)) (Pull i))
 unfolding in_count
 pulled p i x old f lt e h = search (arith, here-input, sound-pull)
 
-pub room-pull : (p : Picture) (i : ℕ) (x : InputPort) (old : ℕ) → Fits p old → i < length p.inputs
-    → x ≡ get_or p.inputs i x → x.flags.has_data ≡ true → length p.actions < old
-unfolding with_input
-room-pull p i x old f lt e h = omega (
-  arith,
-  room-input p i (emptied x) (p.actions ++ Pull i ∷ [])
-      old f (pulled p i x old f lt e h),
-  length-append p.actions (Pull i ∷ []),
-)
-
-pub fits-pull : (p : Picture) (i : ℕ) (x : InputPort) (chunk : Option Table) (actions : List Action)
-    (old new : ℕ) → Fits p old → i < length p.inputs → x ≡ get_or p.inputs i x
-    → x.flags.has_data ≡ true → chunk ≡ None → actions ≡ p.actions ++ Pull i ∷ [] → old ≤ new
-    → Fits (record {
-      inputs = set p.inputs i (record {
-        flags = record x.flags { has_data = false };
-        chunk = chunk;
-      });
-      outputs = p.outputs;
-      actions = actions;
-    }) new
-unfolding with_input with_actions
-fits-pull p i x chunk actions old new f lt e h ec ea le =
-    subst (λ l. Fits (record {
-      inputs = set p.inputs i (record {
-        flags = record x.flags
-            { has_data = false };
-        chunk = chunk;
-      });
-      outputs = p.outputs;
-      actions = l;
-    }) new) (sym ea)
-    (subst (λ k. Fits (record {
-      inputs =
-          set p.inputs i (record { flags = record x.flags { has_data = false }; chunk = k });
-      outputs = p.outputs;
-      actions = p.actions ++ Pull i ∷ [];
-    }) new) (sym ec)
-    (fits-input p i (emptied x) (p.actions ++ Pull i ∷ []) old new f (pulled p i x old f lt e h)
-    le))
-
-shut : (p : Picture) (i : ℕ) (x : InputPort) (old : ℕ) → Fits p old → i < length p.inputs
+pub shut : (p : Picture) (i : ℕ) (x : InputPort) (old : ℕ) → Fits p old → i < length p.inputs
     → x ≡ get_or p.inputs i x → x.flags.fin_in ≡ false
     → IsSound (noted (with_input p i (closed x)) (Close i))
 unfolding in_count
 shut p i x old f lt e h = search (arith, here-input, sound-close)
 
-pub room-close : (p : Picture) (i : ℕ) (x : InputPort) (old : ℕ) → Fits p old → i < length p.inputs
-    → x ≡ get_or p.inputs i x → x.flags.fin_in ≡ false → length p.actions < old
-unfolding with_input
-room-close p i x old f lt e h = omega (
-  arith,
-  room-input p i (closed x) (p.actions ++ Close i ∷ [])
-      old f (shut p i x old f lt e h),
-  length-append p.actions (Close i ∷ []),
-)
-
-pub fits-close : (p : Picture) (i : ℕ) (x : InputPort) (actions : List Action) (old new : ℕ)
-    → Fits p old → i < length p.inputs → x ≡ get_or p.inputs i x → x.flags.fin_in ≡ false
-    → actions ≡ p.actions ++ Close i ∷ [] → old ≤ new → Fits
-    (record { inputs = set p.inputs i (closed x); outputs = p.outputs; actions = actions }) new
-unfolding with_input with_actions
-fits-close p i x actions old new f lt e h ea le =
-    subst (λ l. Fits (record
-    { inputs = set p.inputs i (closed x); outputs = p.outputs; actions = l }) new) (sym ea)
-    (fits-input p i (closed x) (p.actions ++ Close i ∷ []) old new f (shut p i x old f lt e h) le)
-
-wanted : (p : Picture) (i : ℕ) (x : InputPort) (b : Bool) (old : ℕ) → Fits p old
+pub wanted : (p : Picture) (i : ℕ) (x : InputPort) (b : Bool) (old : ℕ) → Fits p old
     → i < length p.inputs → x ≡ get_or p.inputs i x
     → IsSound (with_actions (with_input p i (with_needed x b)) (noted_want i b p.actions))
 unfolding in_count
 wanted p i x b old f lt e = search (arith, here-input, sound-want)
 
-pub room-want : (p : Picture) (i : ℕ) (x : InputPort) (b : Bool) (old : ℕ) → Fits p old
-    → i < length p.inputs → x ≡ get_or p.inputs i x → length (noted_want i b p.actions) ≤ old
-room-want p i x b old f lt e =
-    room-input p i (with_needed x b) (noted_want i b p.actions) old f (wanted p i x b old f lt e)
-
-pub fits-want : (p : Picture) (i : ℕ) (x : InputPort) (b : Bool) (actions : List Action)
-    (old new : ℕ) → Fits p old → i < length p.inputs → x ≡ get_or p.inputs i x
-    → actions ≡ noted_want i b p.actions → old ≤ new → Fits (record
-    { inputs = set p.inputs i (with_needed x b); outputs = p.outputs; actions = actions }) new
-unfolding with_input with_actions
-fits-want p i x b actions old new f lt e ea le =
-    subst (λ l. Fits (record {
-      inputs = set p.inputs i (with_needed x b);
-      outputs = p.outputs;
-      actions = l;
-    }) new) (sym ea)
-    (fits-input p i (with_needed x b) (noted_want i b p.actions) old new f
-    (wanted p i x b old f lt e) le)
-
-pushed : (p : Picture) (o : ℕ) (x : Flags) (chunk : Table) (old : ℕ) → Fits p old
+pub pushed : (p : Picture) (o : ℕ) (x : Flags) (chunk : Table) (old : ℕ) → Fits p old
     → o < length p.outputs → x ≡ get_or p.outputs o x → x.has_data ≡ false
     → IsSound (noted (with_output p o (record x { has_data = true })) (Push o chunk))
 unfolding out_count
 pushed p o x chunk old f lt e h = search (arith, here-output, sound-push)
 
-pub room-push : (p : Picture) (o : ℕ) (x : Flags) (chunk : Table) (old : ℕ) → Fits p old
-    → o < length p.outputs → x ≡ get_or p.outputs o x → x.has_data ≡ false → length p.actions < old
-unfolding with_output
-room-push p o x chunk old f lt e h =
-    omega (
-      arith,
-      room-output p o (record x { has_data = true }) (p.actions ++ Push o chunk ∷ [])
-          old f (pushed p o x chunk old f lt e h),
-      length-append p.actions (Push o chunk ∷ []),
-    )
-
-pub fits-push : (p : Picture) (o : ℕ) (x : Flags) (chunk : Table) (actions : List Action)
-    (old new : ℕ) → Fits p old → o < length p.outputs → x ≡ get_or p.outputs o x → x.has_data
-    ≡ false → actions ≡ p.actions ++ Push o chunk ∷ [] → old ≤ new → Fits (record {
-      inputs =
-          p.inputs;
-      outputs = set p.outputs o (record x { has_data = true });
-      actions = actions;
-    }) new
-unfolding with_output with_actions
-fits-push p o x chunk actions old new f lt e h ea le =
-    subst (λ l. Fits (record {
-      inputs = p.inputs;
-      outputs =
-          set p.outputs o (record x { has_data = true });
-      actions = l;
-    }) new) (sym ea)
-    (fits-output p o (record x { has_data = true }) (p.actions ++ Push o chunk ∷ []) old new f
-    (pushed p o x chunk old f lt e h) le)
-
-finished : (p : Picture) (o : ℕ) (x : Flags) (old : ℕ) → Fits p old → o < length p.outputs
+pub finished : (p : Picture) (o : ℕ) (x : Flags) (old : ℕ) → Fits p old → o < length p.outputs
     → x ≡ get_or p.outputs o x → x.fin_out ≡ false
     → IsSound (noted (with_output p o (record x { fin_out = true })) (Finish o))
 unfolding out_count
 finished p o x old f lt e h = search (arith, here-output, sound-finish)
-
-pub room-finish : (p : Picture) (o : ℕ) (x : Flags) (old : ℕ) → Fits p old → o < length p.outputs
-    → x ≡ get_or p.outputs o x → x.fin_out ≡ false → length p.actions < old
-unfolding with_output
-room-finish p o x old f lt e h =
-    omega (
-      arith,
-      room-output p o (record x { fin_out = true }) (p.actions ++ Finish o ∷ []) old f
-          (finished p o x old f lt e h),
-      length-append p.actions (Finish o ∷ []),
-    )
-
-pub fits-finish : (p : Picture) (o : ℕ) (x : Flags) (actions : List Action) (old new : ℕ)
-    → Fits p old → o < length p.outputs → x ≡ get_or p.outputs o x → x.fin_out ≡ false
-    → actions ≡ p.actions ++ Finish o ∷ [] → old ≤ new → Fits (record {
-      inputs = p.inputs;
-      outputs =
-          set p.outputs o (record x { fin_out = true });
-      actions = actions;
-    }) new
-unfolding with_output with_actions
-fits-finish p o x actions old new f lt e h ea le =
-    subst (λ l. Fits (record {
-      inputs = p.inputs;
-      outputs =
-          set p.outputs o (record x { fin_out = true });
-      actions = l;
-    }) new) (sym ea)
-    (fits-output p o (record x { fin_out = true }) (p.actions ++ Finish o ∷ []) old new f
-    (finished p o x old f lt e h) le)
 
 -- what holds of a new port, of a port past the end, and of each port that was there
 repeated-at : {X : Type 0} (P : X → Type 0) (n i : ℕ) (new past : X) → P new → P past
@@ -296,31 +157,4 @@ pub fits-grown : (p : Picture) (inputs outputs old new m n : ℕ) (ins : List In
     → ins ≡ p.inputs ++ replicate m new_input → outs ≡ p.outputs ++ replicate n no_flags
     → actions ≡ p.actions → Fits (record { inputs = ins; outputs = outs; actions = actions }) new
 fits-grown p inputs outputs old new m n ins outs actions f mi mo fi fo room ei eo ea =
-    let a : length (p.inputs ++ replicate m new_input) ≡ inputs =
-    simp (length-append, length-replicate) mi in
-    let b : length (p.outputs ++ replicate n no_flags) ≡ outputs =
-    simp (length-append, length-replicate) mo in
-    let grown : Fits (record {
-      inputs = p.inputs ++ replicate m new_input;
-      outputs =
-          p.outputs ++ replicate n no_flags;
-      actions = p.actions;
-    }) new = record {
-      sound = sound-grow p m n f.sound;
-      room = rw (a, b) room;
-      few_inputs = rw a fi;
-      few_outputs = rw b fo;
-    } in
-    subst (λ l. Fits (record { inputs = l; outputs = outs; actions = actions }) new) (sym ei)
-    (subst (λ l. Fits (record {
-      inputs = p.inputs ++ replicate m new_input;
-      outputs = l;
-      actions =
-          actions;
-    }) new) (sym eo)
-    (subst (λ l. Fits (record {
-      inputs = p.inputs ++ replicate m new_input;
-      outputs =
-          p.outputs ++ replicate n no_flags;
-      actions = l;
-    }) new) (sym ea) grown))
+    grind (arith, length-append, length-replicate, sound-grow p m n f.sound)

@@ -71,11 +71,6 @@ pub out_count-with_actions : (p : Picture) (actions : List Action)
 unfolding out_count with_actions
 out_count-with_actions p actions = refl
 
-pub actions-with_actions : (p : Picture) (actions : List Action)
-    → (with_actions p actions).actions ≡ actions
-unfolding with_actions
-actions-with_actions p actions = refl
-
 pub actions-with_input : (p : Picture) (i : ℕ) (x : InputPort)
     → (with_input p i x).actions ≡ p.actions
 unfolding with_input
@@ -85,23 +80,3 @@ pub actions-with_output : (p : Picture) (o : ℕ) (f : Flags)
     → (with_output p o f).actions ≡ p.actions
 unfolding with_output
 actions-with_output p o f = refl
-
-pub ruleset picture_laws = (
-  input_at-with_input,
-  input_at-with_input-other,
-  output_at-with_output,
-  output_at-with_output-other,
-  output_at-with_input,
-  input_at-with_output,
-  in_count-with_input,
-  out_count-with_input,
-  in_count-with_output,
-  out_count-with_output,
-  input_at-with_actions,
-  output_at-with_actions,
-  in_count-with_actions,
-  out_count-with_actions,
-  actions-with_actions,
-  actions-with_input,
-  actions-with_output,
-)

@@ -1,5 +1,5 @@
 -- Lists of actions without two in one slot, and how long they get.
-use Rattle.port_word.proofs.Imports.{Action, Bool, Close, EachAction, Finish, IsOnce, List, Pull, Push, Unwant, Want, [], action_slot, ap, arith, cond, drop, drop-cons, eqb-false, eqb-true, get_or, is_want, length, noted_want, refl, set, suc, take, true, want_of, zero, ℕ, ◌*◌, ◌++◌, ◌<◌, ◌==◌, ◌∙◌, ◌∷◌, ◌≡◌, ◌≢◌, ◌≤◌}
+use Rattle.port_word.proofs.Imports.{Action, Bool, Close, EachAction, Finish, IsOnce, List, Pull, Push, Unwant, Want, [], action_slot, ap, arith, cond, drop, drop-cons, eqb-false, eqb-true, get_or, is_want, length, noted_want, refl, set, suc, take, true, want_of, zero, ℕ, ◌*◌, ◌++◌, ◌<◌, ◌==◌, ◌∷◌, ◌≡◌, ◌≢◌, ◌≤◌}
 
 pub each-append : (P : Action → Type 0) (xs : List Action) (y : Action) → EachAction P xs → P y
     → EachAction P (xs ++ y ∷ [])

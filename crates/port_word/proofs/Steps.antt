@@ -1,5 +1,5 @@
 -- How actions carried out one after another go together.
-use Rattle.port_word.proofs.Imports.{arith, Action, Bool, Close, EachAction, Finish, Flags, InputAllows, IsOnce, List, Option, OutputAllows, Pull, Push, Table, Unwant, Want, [], action_slot, cases_Bool, chunk_after, chunk_step, cond, eqb-true, false, input_after, input_allows, input_step, is_want, not, noted_want, output_after, output_allows, output_step, refl, true, want_of, ℕ, ◌*◌, ◌++◌, ◌==◌, ◌||◌, ◌∙◌, ◌∷◌, ◌≡◌, ◌≢◌}
+use Rattle.port_word.proofs.Imports.{arith, Action, Bool, Close, EachAction, Finish, Flags, InputAllows, IsOnce, List, Option, OutputAllows, Pull, Push, Table, Unwant, Want, [], action_slot, cases_Bool, chunk_after, chunk_step, cond, eqb-true, false, input_after, input_allows, input_step, is_want, not, noted_want, output_after, output_allows, output_step, refl, true, want_of, ℕ, ◌*◌, ◌++◌, ◌==◌, ◌||◌, ◌∷◌, ◌≡◌, ◌≢◌}
 use Rattle.port_word.proofs.Slots.{each-map, slot-is_want}
 
 pub cond-ap : {A B : Type 0} (h : A → B) (b : Bool) (x y : A) → h (cond b x y) ≡ cond b (h x) (h y)

@@ -1,6 +1,6 @@
 -- Laws of graphs: the ports of a node in use are numbered from 0 up to their count, and a graph is
 -- built node by node and edge by edge.
-use Rattle.proc_api.proofs.Imports.{All-from_get_or, All-get_or, AllPass-from_list_all, ArePortsOnce, Bool, HasInputWire, HasOutputWire, IsEdge, IsGraph, IsGraphSoFar, List, Reserve, Wire, [], all_below, and_from, and_parts, arith, both_ways, cases_lt, eq-eqb, eqb-true, false, get_or-append_seam, get_or_append_left, has_input, has_output, inl, input_count, inr, is_gapless, length, length-append, list_all, list_all-from_AllPass, no_wire, not, output_count, rank_at, refl, reserved_edges, subst, suc, sym, true, wire_at, zero, ℕ, ◌++◌, ◌+◌, ◌<◌, ◌==◌, ◌||◌, ◌∷◌, ◌≡◌, ◌≤◌}
+use Rattle.proc_api.proofs.Imports.{All-from_get_or, All-get_or, AllPass-from_list_all, ArePortsOnce, Bool, HasInputWire, HasOutputWire, IsEdge, IsGraph, IsGraphSoFar, List, Reserve, Wire, [], all_below, and_from, and_parts, arith, cases_lt, eq-eqb, eqb-true, false, get_or, get_or-append_seam, get_or_append_left, has_input, has_output, input_count, is_gapless, length, length-append, list_all, list_all-from_AllPass, no_wire, not, output_count, rank_at, refl, reserved_edges, suc, true, wire_at, zero, ℕ, ◌++◌, ◌+◌, ◌<◌, ◌==◌, ◌||◌, ◌∷◌, ◌≡◌, ◌≤◌, ◌⊎◌}
 use Rattle.proc_api.proofs.PortCounts.{AreGapless, count-limit, edge-of, has_port, port-below-count, port-of, port-of-count}
 
 pub wire-input : (wires : List Wire) (e n i : ℕ) → e < length wires → (wire_at wires e).to ≡ n
@@ -15,34 +15,20 @@ wire-output = port-of (λ w. w.from) (λ w. w.out)
 
 pub all_below-at : (test : ℕ → Bool) (k i : ℕ) → all_below test k ≡ true → i < k → test i ≡ true
 all_below-at test zero i h lt = absurd (omega (arith, lt))
-all_below-at test (suc k) i h lt =
-    let both = and_parts (all_below test k) (test k) h in
-    elim (cases_lt i k) [
-      | inl less ↦ all_below-at test k i both.0 less
-      | inr le ↦ let same : k ≡ i = omega (arith, le, lt) in subst (λ m. test m ≡ true) same both.1
-    ]
+all_below-at test (suc k) i h lt = grind (arith, and_parts, cases_lt, all_below-at test k)
 
 -- one that fails is enough
 pub all_below-fails : (test : ℕ → Bool) (k i : ℕ) → i < k → test i ≡ false → (b : Bool)
     → all_below test k ≡ b → all_below test k ≡ false
-all_below-fails test k i lt off true e =
-    absurd (both_ways (test i) off (all_below-at test k i e lt))
-all_below-fails test k i lt off false e = e
-
--- what follows from a test that is met
-met : (a b : Bool) → a ≡ true → (not a || b) ≡ true → b ≡ true
-met true b a h = h
-met false b a h = absurd (cc)
+all_below-fails test k i lt off b e = grind (arith, all_below-at test k i)
 
 unless_met : (a b : Bool) → (a ≡ true → b ≡ true) → (not a || b) ≡ true
-unless_met true b h = h refl
-unless_met false b h = refl
+unless_met a b h = grind arith
 
 all_below-from : (test : ℕ → Bool) (k : ℕ) → ((i : ℕ) → i < k → test i ≡ true)
     → all_below test k ≡ true
 all_below-from test zero h = refl
-all_below-from test (suc k) h =
-    and_from _ _ (all_below-from test k (λ i lt. h i (omega (arith, lt)))) (h k (omega arith))
+all_below-from test (suc k) h = grind (arith, and_from, all_below-from test k)
 
 -- where each edge is at another node, or each port below its own is in use, there is no gap; and
 -- the other way round
@@ -64,10 +50,13 @@ module _ (node port : Wire → ℕ) (wires : List Wire) where
   unfolding wire_at
   no-gap h e k lt below =
       let n : ℕ = node (wire_at wires e) in
-      let own : follows n (wire_at wires e) ≡ true = All-get_or (λ w. follows n w ≡ true) wires e
-      no_wire lt (AllPass-from_list_all (follows n) wires (h e lt)) in
-      all_below-at (has_port node port wires n) (port (wire_at wires e)) k
-      (met _ _ (eq-eqb n n refl) own) below
+      grind (
+        arith,
+        All-get_or (λ w. follows n w ≡ true) wires e no_wire lt
+            (AllPass-from_list_all (follows n) wires (h e lt)),
+        eq-eqb n n,
+        all_below-at (has_port node port wires n) (port (wire_at wires e)) k,
+      )
 
 -- a node has no gap where each port below one in use is in use
 pub is-gapless : (wires : List Wire) (n : ℕ)
@@ -125,73 +114,56 @@ few-outputs ranks wires reserves g n =
 
 -- ---- how a graph is built
 
+-- the rank of a node, and an edge, stay with more nodes
+pub rank_at-append : (ranks more : List ℕ) (n : ℕ) → n < length ranks
+    → rank_at (ranks ++ more) n ≡ rank_at ranks n
+unfolding rank_at
+rank_at-append ranks more n lt = get_or_append_left ranks more 0 n lt
+
 pub rank-kept : (ranks : List ℕ) (r n : ℕ) → n < length ranks
     → rank_at (ranks ++ r ∷ []) n ≡ rank_at ranks n
-unfolding rank_at
-rank-kept ranks r n lt = get_or_append_left ranks (r ∷ []) 0 n lt
+rank-kept ranks r n lt = rank_at-append ranks (r ∷ []) n lt
 
-edge-kept : (ranks : List ℕ) (r : ℕ) (w : Wire) → IsEdge ranks w → IsEdge (ranks ++ r ∷ []) w
-edge-kept ranks r w h = search (arith, length-append, rank-kept)
+pub edge-kept : (ranks more : List ℕ) (w : Wire) → IsEdge ranks w → IsEdge (ranks ++ more) w
+edge-kept ranks more w h = search (arith, length-append, rank_at-append)
 
 -- a node is added
 pub node-added : (ranks : List ℕ) (wires : List Wire) (reserves : List Reserve) (r : ℕ)
     → IsGraphSoFar ranks wires reserves → length ranks < 256
     → IsGraphSoFar (ranks ++ r ∷ []) wires reserves
-node-added ranks wires reserves r g lt = record {
-  few_nodes = omega (arith, lt, length-append ranks (r ∷ []));
-  few_edges = g.few_edges;
-  edges = λ e in_range. edge-kept ranks r (wire_at wires e) (g.edges e in_range);
-  inputs_once = g.inputs_once;
-  outputs_once = g.outputs_once;
-}
+node-added ranks wires reserves r g lt = search (arith, length-append, edge-kept)
+
+-- a place of a list with one element more is one of the list, or the last
+pub at-seam : {A : Type 0} (past : A) (xs : List A) (x : A) (k : ℕ) → k < length (xs ++ x ∷ [])
+    → ((k < length xs) × (get_or (xs ++ x ∷ []) k past ≡ get_or xs k past))
+    ⊎ ((length xs ≡ k) × (get_or (xs ++ x ∷ []) k past ≡ x))
+at-seam past xs x k lt = grind (
+  arith,
+  get_or_append_left,
+  cases_lt k (length xs),
+  length-append xs (x ∷ []),
+  get_or-append_seam xs x [] past,
+)
 
 module _ (wires : List Wire) (w : Wire) where
-  wire-kept : (e : ℕ) → e < length wires → wire_at (wires ++ w ∷ []) e ≡ wire_at wires e
-  unfolding wire_at
-  wire-kept e lt = get_or_append_left wires (w ∷ []) no_wire e lt
-
-  wire-last : (e : ℕ) → e < length (wires ++ w ∷ []) → length wires ≤ e
-      → wire_at (wires ++ w ∷ []) e ≡ w
-  unfolding wire_at
-  wire-last e within le =
-      let last : length wires ≡ e = omega (arith, within, le, length-append wires (w ∷ [])) in
-      subst (λ m. wire_at (wires ++ w ∷ []) m ≡ w) last (get_or-append_seam wires w [] no_wire)
-
   -- Two edges at one port are one, also with a wire at a port that has none.
   once-added : (node port : Wire → ℕ) → ArePortsOnce node port wires
       → has_port node port wires (node w) (port w) ≡ false
       → ArePortsOnce node port (wires ++ w ∷ [])
+  unfolding wire_at
   once-added node port once free e f we wf same =
-      elim (cases_lt e (length wires)) [
-        | inl le ↦ elim (cases_lt f (length wires)) [
-          | inl lf ↦ let a = wire-kept e le in let b = wire-kept f lf in once e f le lf (cc, cc)
-          | inr gf ↦ absurd (meets e f le wf gf same.0 same.1)
-        ]
-        | inr ge ↦ elim (cases_lt f (length wires)) [
-          | inl lf ↦ absurd (meets f e lf we ge (sym same.0) (sym same.1))
-          | inr gf ↦ omega (arith, we, ge, wf, gf, length-append wires (w ∷ []))
-        ]
-      ]
-    where
-      meets : (d l : ℕ) → d < length wires → l < length (wires ++ w ∷ []) → length wires ≤ l
-          → node (wire_at (wires ++ w ∷ []) d) ≡ node (wire_at (wires ++ w ∷ []) l)
-          → port (wire_at (wires ++ w ∷ []) d) ≡ port (wire_at (wires ++ w ∷ []) l) → ⊥
-      meets d l ld wl le at is =
-          let a = wire-kept d ld in let b = wire-last l wl le in
-          both_ways _ free (port-of node port wires d (node w) (port w) ld (cc) (cc))
+      grind (arith, at-seam no_wire wires w e we, at-seam no_wire wires w f wf, port-of)
 
 -- an edge is added at two free ports
 pub edge-added : (ranks : List ℕ) (wires : List Wire) (reserves : List Reserve) (w : Wire)
     → IsGraphSoFar ranks wires reserves → IsEdge ranks w → has_input wires w.to w.input ≡ false
     → has_output wires w.from w.out ≡ false → length wires + reserved_edges reserves < 1024
     → IsGraphSoFar ranks (wires ++ w ∷ []) reserves
-edge-added ranks wires reserves w g h free_input free_output lt = record {
-  few_nodes = g.few_nodes;
-  few_edges = omega (arith, lt, length-append wires (w ∷ []));
-  edges = λ e within. elim (cases_lt e (length wires)) [
-    | inl less ↦ rw (wire-kept wires w e less) (g.edges e less)
-    | inr le ↦ rw (wire-last wires w e within le) h
-  ];
-  inputs_once = once-added wires w (λ x. x.to) (λ x. x.input) g.inputs_once free_input;
-  outputs_once = once-added wires w (λ x. x.from) (λ x. x.out) g.outputs_once free_output;
-}
+unfolding wire_at
+edge-added ranks wires reserves w g h free_input free_output lt = grind (
+  arith,
+  length-append,
+  at-seam no_wire wires w,
+  once-added wires w (λ x. x.to) (λ x. x.input) g.inputs_once,
+  once-added wires w (λ x. x.from) (λ x. x.out) g.outputs_once,
+)

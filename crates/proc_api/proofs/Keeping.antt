@@ -1,18 +1,11 @@
 -- How what a box keeps goes on with what a `prepare` pulls and pushes.
-use Rattle.proc_api.proofs.Imports.{All, All-head, All-tail, AllFit, AreFitting, BoxPicture, ColumnType, FitsInput, HasMade, HasReadEnough, IsOver, IsPulled, IsReadOut, IsWanting, KeepsMade, List, Lists, MakesTypes, NotesEnd, Option, OwnState, Picture, PulledOn, Reading, Row, Some, Spec, Table, [], ap, ap₂, arith, cases_lt, chunk_rows, file_of, flat_map-append, get_or-append-add, get_or_append_left, get_or_default, inl, inr, kept_output, last_count, length, length-append, no_table, own_of, pulled_at, raised, reading_of, refl, rows_pulled, subst, suc, total_rows, true, unworked_at, with_pulled, zero, ℕ, ◌++◌, ◌+◌, ◌<◌, ◌∙◌, ◌∷◌, ◌≡◌, ◌⊎◌}
+use Rattle.proc_api.proofs.Imports.{All, All-head, All-tail, AllFit, AreFitting, BoxPicture, ColumnType, FitsInput, HasMade, HasReadEnough, IsOver, IsPulled, IsReadOut, IsWanting, KeepsMade, List, Lists, MakesTypes, NotesEnd, Option, OwnState, Picture, PulledOn, Reading, Row, Some, Spec, Table, [], arith, cases_lt, chunk_rows, file_of, flat_map-append, get_or-append-add, get_or_append_left, get_or_default, kept_output, last_count, length-append, no_table, own_of, pulled_at, raised, reading_of, refl, rows_pulled, subst, suc, total_rows, true, unworked_at, with_pulled, zero, ℕ, ◌++◌, ◌+◌, ◌<◌, ◌∙◌, ◌∷◌, ◌≡◌, ◌⊎◌}
 
 -- ---- chunks that were pulled
 
 pub pulled-more : (v w : Picture) (ins : Lists) (types : List ColumnType) → IsPulled ins types
     → IsPulled (with_pulled v w ins) types
-pulled-more v w ins types h = record {
-  input = h.input;
-  place = h.place;
-  in_range = let l = length-append (ins h.input) (pulled_at v w h.input) in
-      omega (arith, l, h.in_range);
-  is = ap (λ (t : Table). t.types)
-      (get_or_append_left (ins h.input) (pulled_at v w h.input) no_table h.place h.in_range) ∙ h.is;
-}
+pulled-more v w ins types h = grind (arith, length-append, get_or_append_left)
 
 pub makes-more : (s : Option Spec) (v w : Picture) (ins : Lists) (types : List ColumnType)
     → MakesTypes s ins types → MakesTypes s (with_pulled v w ins) types
@@ -21,52 +14,39 @@ makes-more s v w ins types h = grind (arith, pulled-more)
 
 -- what is true of all chunks of a longer list is true of its front
 pub front-all : (P : Table → Type 0) (xs ys : List Table) → All P (xs ++ ys) → All P xs
-front-all P xs ys h = λ k d lt. subst P (get_or_append_left xs ys d k lt)
-    (h k d (let l = length-append xs ys in omega (arith, l, lt)))
+front-all P xs ys h = λ k d lt. grind (arith, length-append, get_or_append_left)
 
 -- the last of the longer list was pulled
 pub pulled-last : (v w : Picture) (ins : Lists) (i : ℕ)
     → All (λ (t : Table). IsPulled (with_pulled v w ins) t.types) (pulled_at v w i)
-pulled-last v w ins i = λ k d lt. record {
-  input = i;
-  place = length (ins i) + k;
-  in_range = let l = length-append (ins i) (pulled_at v w i) in omega (arith, l, lt);
-  is = ap (λ (t : Table). t.types) (get_or-append-add (ins i) (pulled_at v w i) k no_table
-      ∙ get_or_default (pulled_at v w i) k no_table d lt);
-}
+pulled-last v w ins i = λ k d lt. grind (
+  arith,
+  length-append,
+  get_or-append-add (ins i) (pulled_at v w i) k no_table,
+  get_or_default (pulled_at v w i) k no_table d lt,
+)
 
 -- ---- chunks that fit
 
 -- a chunk more that fits is one of those that fit, and one that doesn't isn't
 pub fitting-more : (P : Table → Type 0) (chunks fit : List Table) (t : Table) → P t
     → AreFitting P chunks fit → AreFitting P (chunks ++ t ∷ []) (fit ++ t ∷ [])
-fitting-more P [] [] t p h = inl (p, refl, refl)
-fitting-more P [] (u ∷ fit) t p h = absurd (cc)
-fitting-more P (c ∷ chunks) [] t p h = inr (h.0, fitting-more P chunks [] t p h.1)
-fitting-more P (c ∷ chunks) (u ∷ fit) t p h = elim h [
-  | inl x ↦ inl (x.0, x.1, fitting-more P chunks fit t p x.2)
-  | inr x ↦ inr (x.0, fitting-more P chunks (u ∷ fit) t p x.1)
-]
+fitting-more P [] fit t p h = grind arith
+fitting-more P (c ∷ chunks) fit t p h = grind (arith, fitting-more P chunks)
 
 pub fitting-past : (P : Table → Type 0) (chunks fit : List Table) (t : Table) → (P t → ⊥)
     → AreFitting P chunks fit → AreFitting P (chunks ++ t ∷ []) fit
-fitting-past P [] [] t n h = (n, refl)
-fitting-past P [] (u ∷ fit) t n h = absurd (cc)
 fitting-past P (c ∷ chunks) [] t n h = (h.0, fitting-past P chunks [] t n h.1)
-fitting-past P (c ∷ chunks) (u ∷ fit) t n h = elim h [
-  | inl x ↦ inl (x.0, x.1, fitting-past P chunks fit t n x.2)
-  | inr x ↦ inr (x.0, fitting-past P chunks (u ∷ fit) t n x.1)
-]
+fitting-past P (c ∷ chunks) (u ∷ fit) t n h =
+    search (arith, fitting-past P chunks fit t n, fitting-past P chunks (u ∷ fit) t n)
+fitting-past P chunks fit t n h = grind arith
 
 -- where all fit they are those that fit
 pub all-fitting : (P : Table → Type 0) (chunks fit : List Table) → All P chunks
     → AreFitting P chunks fit → fit ≡ chunks
 all-fitting P [] fit all h = h
-all-fitting P (c ∷ chunks) [] all h = absurd (h.0 (All-head P c chunks all))
-all-fitting P (c ∷ chunks) (u ∷ fit) all h = elim h [
-  | inl x ↦ ap₂ (λ a b. a ∷ b) x.1 (all-fitting P chunks fit (All-tail P c chunks all) x.2)
-  | inr x ↦ absurd (x.0 (All-head P c chunks all))
-]
+all-fitting P (c ∷ chunks) fit all h =
+    grind (arith, All-head P c chunks all, all-fitting P chunks, All-tail P c chunks all)
 
 -- what is made of all chunks that were worked
 pub record KeepsWorked (s : Spec) (p : BoxPicture) (ins outs : Lists) : Type 0 where
@@ -100,9 +80,7 @@ pub wanting-not-enough : (s : Spec) (x : Reading) (own : OwnState) (worked fit o
     (wait : List Row) → ((i : ℕ) → AreFitting (λ (t : Table). FitsInput (Some s) i t.types)
     (worked i) (fit i)) → HasMade x s own fit outs wait → IsWanting (Some s) own.read
     → HasReadEnough (Some s) worked → ⊥
-wanting-not-enough (Spec.Limit span) x own worked fit outs wait are made wanting enough =
-    search (arith, all-fitting)
-wanting-not-enough s x own worked fit outs wait are made wanting enough = enough
+wanting-not-enough s x own worked fit outs wait are made wanting enough = grind (arith, all-fitting)
 
 -- ---- counts
 
@@ -114,13 +92,6 @@ pub total-append : (n : ℕ) (a b : Lists)
 unfolding total_rows
 total-append zero a b = refl
 total-append (suc n) a b = search (arith, rows-append, length-append, total-append n a b)
-
--- nothing is there behind the first list
-pub total-first : (n : ℕ) (a : Lists) → ((i : ℕ) → 0 < i → a i ≡ [])
-    → total_rows (suc n) a ≡ length (chunk_rows (a 0))
-unfolding total_rows
-total-first zero a e = omega arith
-total-first (suc n) a e = search (arith, total-first n a e)
 
 pub total-none : (n : ℕ) (a : Lists) → ((i : ℕ) → i < n → a i ≡ []) → total_rows n a ≡ 0
 unfolding total_rows
@@ -135,25 +106,14 @@ pub counted-more : (p q : BoxPicture) (v w : Picture) (ins : Lists) → PulledOn
     ≡ raised p.pulled (rows_pulled v w) → (p.notes.pulled ≡ total_rows 32 ins) ⊎ (p.pulled
     ≡ last_count) → (q.notes.pulled ≡ total_rows 32 (with_pulled v w ins)) ⊎ (q.pulled ≡ last_count)
 counted-more p q v w ins on e h =
-    let more = total-append 32 ins (pulled_at v w) in
-    let since = on.since in
-    elim (cases_lt (p.pulled + rows_pulled v w) last_count) [
-      | inl less ↦ elim h [
-        | inl kept ↦ inl (omega (arith, more, since, e, less, kept))
-        | inr full ↦
-            absurd (omega (arith, less, full))
-      ]
-      | inr reached ↦ inr (omega (arith, e, reached))
-    ]
+    grind (arith, on.since, total-append 32 ins (pulled_at v w), cases_lt)
 
 -- enough that was read stays enough
 pub enough-more : (s : Option Spec) (v w : Picture) (ins : Lists) → HasReadEnough s ins
     → HasReadEnough s (with_pulled v w ins)
-enough-more (Some (Spec.Limit span)) v w ins h = search (arith, rows-append, length-append)
-enough-more s v w ins h = h
+enough-more s v w ins h = grind (arith, rows-append, length-append)
 
 -- a kind that notes an end never reads enough
 pub never-enough : (s : Spec) (own : OwnState) (i : ℕ) (ins : Lists) → NotesEnd (Some s) own i
     → HasReadEnough (Some s) ins → ⊥
-never-enough (Spec.Limit span) own i ins n enough = n
-never-enough s own i ins n enough = enough
+never-enough s own i ins n enough = grind arith

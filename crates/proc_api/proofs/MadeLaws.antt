@@ -1,5 +1,5 @@
 -- What one chunk more makes of the rows of all inputs or outputs, and of a span.
-use Rattle.proc_api.proofs.Imports.{AreLimited, IsPermutation, IsPermutation-append_comm, IsPermutation-append_left, IsPermutation-append_right, IsPermutation-same, IsPermutation-trans, List, Lists, Row, Span, Table, [], all_rows, ap, append_assoc, ap₂, arith, cases_eq, chunk_rows, common_steps, drop, drop-take, inl, inr, last_read, length, length-append, length-drop, length-take, min, no_lists, refl, subst, suc, sym, take, take_min, zero, ℕ, ◌++◌, ◌+◌, ◌-◌, ◌<◌, ◌^◌, ◌∙◌, ◌∷◌, ◌≡◌, ◌≢◌, ◌≤◌}
+use Rattle.proc_api.proofs.Imports.{AreLimited, IsPermutation, IsPermutation-append_comm, IsPermutation-append_left, IsPermutation-append_right, IsPermutation-same, IsPermutation-trans, List, Lists, Row, Span, Table, [], all_rows, ap, append_assoc, arith, cases_eq, chunk_rows, common_steps, drop, drop-take, inl, inr, last_read, length, length-append, length-drop, length-take, min, no_lists, refl, suc, sym, take, take_min, zero, ℕ, ◌++◌, ◌+◌, ◌-◌, ◌<◌, ◌^◌, ◌∙◌, ◌∷◌, ◌≡◌, ◌≢◌, ◌≤◌}
 use Rattle.proc_api.proofs.Keeping.{rows-append}
 
 -- ---- the rows of all inputs or outputs
@@ -23,17 +23,10 @@ pub more-rows : (n i : ℕ) (few more : Lists) (xs : List Table) → more i ≡ 
 unfolding all_rows
 more-rows zero i few more xs e ne lt = absurd (omega arith)
 more-rows (suc n) i few more xs e ne lt = elim (cases_eq i n) [
-  | inl z ↦
-      let front = same-rows n few more (λ j less. ne j (λ x. omega (arith, x, z, less))) in
-      let one : more n ≡ few n ++ xs = subst (λ j. more j ≡ few j ++ xs) z e in
-      IsPermutation-same _ _ (ap₂ (λ l m. l ++ m) front (ap chunk_rows one ∙ rows-append (few n) xs)
-      ∙ sym (append_assoc (all_rows n few) (chunk_rows (few n)) (chunk_rows xs)))
-  | inr z ↦
-      let last : chunk_rows (more n) ≡ chunk_rows (few n) = ap chunk_rows (ne n (λ e. z (sym e))) in
-      IsPermutation-trans _ _ _ (IsPermutation-same _ _ (ap (λ l. all_rows n more ++ l) last))
-      (IsPermutation-trans _ _ _
-      (IsPermutation-append_left (chunk_rows (few n)) (all_rows n more)
-      (all_rows n few ++ chunk_rows xs) (more-rows n i few more xs e ne (omega (arith, z))))
+  | inl z ↦ grind (arith, same-rows, IsPermutation-same, rows-append, append_assoc)
+  | inr z ↦ rw (ne n (λ e. z (sym e))) (IsPermutation-trans _ _ _
+      (IsPermutation-append_left (chunk_rows (few n)) _ _
+      (more-rows n i few more xs e ne (omega (arith, z))))
       (turned (all_rows n few) (chunk_rows xs) (chunk_rows (few n))))
 ]
 
@@ -72,9 +65,6 @@ within : (place n : ℕ) (xs : List Row) → place < 2 ^ 65
     → min (place - min n last_read) (length xs) ≡ min (place - n) (length xs)
 within place n xs lt = omega (arith, lt)
 
-drop-within : (k n : ℕ) (ys : List Row) → length ys ≤ n → drop (min k n) ys ≡ drop k ys
-drop-within k n ys e = grind (arith, common_steps)
-
 -- the rows of one chunk more
 pub limited-more : (span : Span) (read : ℕ) (xs made : List Row) (t u : Table)
     → span.skip < 2 ^ 64 → span.count < 2 ^ 64
@@ -83,4 +73,4 @@ pub limited-more : (span : Span) (read : ℕ) (xs made : List Row) (t u : Table)
     → AreLimited span xs made read
     → AreLimited span (xs ++ t.rows) (made ++ u.rows) (min (read + length t.rows) last_read)
 limited-more span read xs made t u a b rows h =
-    search (arith, length-take, within, drop-within, take_min, span-more, length-append)
+    grind (arith, length-take, within, take_min, span-more, length-append, common_steps)

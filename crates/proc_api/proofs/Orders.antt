@@ -1,5 +1,5 @@
 -- Lists in order, each row against each later one.
-use Rattle.proc_api.proofs.Imports.{All-contains, All-from_recursion, All-permutation, AllByRecursion, Bool, Contains, IsPermutation, IsPermutation-cons, IsPermutation-middle, IsPermutation-refl, IsPermutation-trans, IsSortedBy, IsStrictWeakOrder, List, Row, SortKey, [], arith, false, is_lt, ranks_by, recursion_from_All, refl, row_cmp, row_cmp_total, sorted_far, suc, true, zero, ◌++◌, ◌+◌, ◌∷◌, ◌≡◌}
+use Rattle.proc_api.proofs.Imports.{All-contains, All-from_recursion, All-permutation, AllByRecursion, Bool, Contains, IsPermutation, IsPermutation-cons, IsPermutation-middle, IsPermutation-refl, IsPermutation-trans, IsSortedBy, IsStrictWeakOrder, List, Row, SortKey, [], arith, false, is_lt, ranks_by, recursion_from_All, refl, row_cmp, row_cmp_total, sorted_far, suc, true, ◌++◌, ◌+◌, ◌∷◌, ◌≡◌}
 
 -- no later row comes before an earlier one
 abbrev pub InOrder : (Row → Row → Bool) → List Row → Type 0
@@ -83,10 +83,9 @@ module _ (lt : Row → Row → Bool) (o : IsStrictWeakOrder lt) where
   )
 
   pub sorted-from_order : (xs : List Row) → InOrder lt xs → IsSortedBy lt xs
-  sorted-from_order (x ∷ y ∷ xs) h zero d low high = h.0.0
   sorted-from_order (x ∷ y ∷ xs) h (suc k) d low high =
       search (arith, sorted-from_order (y ∷ xs) h.1 k d (omega arith) (omega (arith, high)))
-  sorted-from_order _ h k d low high = absurd (omega arith)
+  sorted-from_order xs h k d low high = grind arith
 
   -- ---- an order of any rows
 

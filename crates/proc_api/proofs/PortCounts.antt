@@ -1,7 +1,7 @@
 -- The ports of edges on one side, where `node` and `port` tell at which node an edge is, and
 -- at which port. Where no two edges are at one port, and each port below one in use is in use, the
 -- ports of a node are numbered from 0 up to their count.
-use Rattle.proc_api.proofs.Imports.{Any-from_list_any, ArePortsOnce, Bool, List, Wire, [], and_from, and_parts, ap, arith, both_ways, cases_Bool, cases_lt, cond_both, count_by, eq-eqb, eqb-true, false_from_ne_true, filter, get_or_default, inl, inr, le-length_from_below, length, length-filter, length-le_from_distinct_below, length-map, list_any, list_any_at, map, no_wire, recursion_from_All, refl, subst, suc, sym, true, wire_at, ℕ, ◌&&◌, ◌<◌, ◌==◌, ◌∙◌, ◌∷◌, ◌≡◌, ◌≤◌}
+use Rattle.proc_api.proofs.Imports.{Any-from_list_any, ArePortsOnce, Bool, List, Wire, [], and_from, and_parts, arith, cases_Bool, cases_lt, cond_both, count_by, eq-eqb, eqb-true, false_from_ne_true, filter, get_or_default, le-length_from_below, length, length-filter, length-le_from_distinct_below, length-map, list_any, list_any_at, map, recursion_from_All, refl, subst, suc, sym, true, wire_at, ℕ, ◌&&◌, ◌<◌, ◌==◌, ◌∙◌, ◌∷◌, ◌≡◌, ◌≤◌}
 use Rattle.std.specs.List.{IsDistinct}
 
 module _ (node port : Wire → ℕ) where
@@ -22,10 +22,7 @@ module _ (node port : Wire → ℕ) where
       → (e : ℕ) × (e < length wires) × (node (wire_at wires e) ≡ n) × (port (wire_at wires e) ≡ k)
   unfolding wire_at
   edge-of wires n k h =
-      let a = Any-from_list_any (λ (w : Wire). (node w == n) && (port w == k)) wires h in
-      let same : wire_at wires a.0 ≡ a.1 = get_or_default wires a.0 no_wire a.1 a.2 ∙ a.3 in
-      let both = and_parts _ _ a.4 in
-      (a.0, a.2, ap node same ∙ eqb-true _ _ both.0, ap port same ∙ eqb-true _ _ both.1)
+      search (arith, Any-from_list_any, get_or_default, and_parts, eqb-true, node, port)
 
   pub port-of : (wires : List Wire) (e n k : ℕ) → e < length wires → node (wire_at wires e) ≡ n
       → port (wire_at wires e) ≡ k → has_port wires n k ≡ true
@@ -67,10 +64,7 @@ module _ (node port : Wire → ℕ) where
 
   up-to-own : (wires : List Wire) → AreGapless wires → (e k : ℕ) → e < length wires
       → k ≤ port (wire_at wires e) → has_port wires (node (wire_at wires e)) k ≡ true
-  up-to-own wires gapless e k lt le = elim (cases_lt k (port (wire_at wires e))) [
-    | inl below ↦ gapless e k lt below
-    | inr above ↦ port-of wires e (node (wire_at wires e)) k lt refl (omega (arith, le, above))
-  ]
+  up-to-own wires gapless e k lt le = grind (arith, cases_lt, port-of)
 
   pub port-below-count : (wires : List Wire) → AreGapless wires → (e : ℕ) → e < length wires
       → port (wire_at wires e) < port_count wires (node (wire_at wires e))
@@ -93,14 +87,5 @@ module _ (node port : Wire → ℕ) where
   -- each port below the count has an edge
   pub port-of-count : (wires : List Wire) → ArePortsOnce node port wires → AreGapless wires
       → (n k : ℕ) → k < port_count wires n → has_port wires n k ≡ true
-  port-of-count wires once gapless n k lt = elim (cases_Bool (has_port wires n k)) [
-    | inl e ↦ e
-    | inr e ↦
-        let few = count-limit wires k once n (λ f in_range at.
-        elim (cases_lt (port (wire_at wires f)) k) [
-          | inl less ↦ less
-          | inr le ↦ absurd (both_ways _ e (subst (λ m. has_port wires m k ≡ true) at
-              (up-to-own wires gapless f k in_range le)))
-        ]) in
-        absurd (omega (arith, lt, few))
-  ]
+  port-of-count wires once gapless n k lt =
+      grind (arith, cases_Bool, cases_lt, count-limit wires k once n, up-to-own wires gapless)

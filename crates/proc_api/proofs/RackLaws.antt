@@ -1,21 +1,12 @@
 -- Laws of racks.
-use Rattle.proc_api.proofs.Imports.{BoxPicture, all_kinds, arith, kind_place, IsPlaceOf, Kind, List, TakesOut, ap, count_by, count_by_more_no, drop, false, get_or, get_or-map, is_of, length, length-map, map, map-append, no_box, remove, split_at, suc, sym, take, take-map, ℕ, ◌++◌, ◌+◌, ◌<◌, ◌∙◌, ◌∷◌, ◌≡◌}
+use Rattle.proc_api.proofs.Imports.{BoxPicture, all_kinds, arith, kind_place, IsPlaceOf, Kind, List, TakesOut, ap, count_by, count_by_more_no, false, get_or, get_or-map, is_of, length, length-map, map, map-append, remove, split_at, sym, take, take-map, ℕ, ◌++◌, ◌+◌, ◌<◌, ◌∙◌, ◌∷◌, ◌≡◌}
 
 -- the box at the first place of a kind is the first of that kind
 pub takes_out_of : {A : Type 0} (f : A → BoxPicture) (k : Kind) (xs ys : List A) (i : ℕ) (x : A)
     → IsPlaceOf k (map f xs) i → x ≡ get_or xs i x → ys ≡ remove xs i
     → TakesOut k (map f xs) (map f ys) (f x)
 takes_out_of f k xs ys i x p e left =
-    let lt : i < length xs = rw length-map at p.in_range in
-    record {
-      front = map f (take i xs);
-      back = map f (drop (suc i) xs);
-      before_is = ap (map f) (split_at xs i x lt) ∙ map-append f (take i xs) _
-          ∙ ap (λ y. map f (take i xs) ++ f y ∷ map f (drop (suc i) xs)) (sym e);
-      after_is = ap (map f) left ∙ map-append f (take i xs) (drop (suc i) xs);
-      of_kind = ap (is_of k) (ap f e ∙ sym (get_or-map f xs i x no_box lt)) ∙ p.of_kind;
-      first = ap (count_by (is_of k)) (sym (take-map f i xs)) ∙ p.first;
-    }
+    grind (arith, length-map, split_at xs i x, map-append, take-map, get_or-map)
 
 -- no box of the kind is among the first so far, nor is the next one
 pub none_so_far : {A : Type 0} (f : A → BoxPicture) (k : Kind) (xs : List A) (i : ℕ) (x : A)

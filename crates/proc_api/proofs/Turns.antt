@@ -1,6 +1,6 @@
 -- What each call of a view changes, port by port. A processor's proof takes these in the place of
 -- the calls' pictures.
-use Rattle.proc_api.proofs.Imports.{Action, Bool, Changes, Changes-set, Close, Finish, Flags, InputPort, List, Picture, Pull, Push, Table, [], after_close, after_finish, after_need, after_pull, after_push, ap, append-nil, arith, can_push, closed, cond, cond_both, emptied, eq-eqb, false, holds_data, in_count, input_at, is_out_finished, ne_eqb, no_input, not-true, noted, noted_want, out_count, output_at, over_flags, pushes_to, refl, sym, true, with_actions, with_input, with_needed, with_output, ℕ, ◌++◌, ◌<◌, ◌||◌, ◌∙◌, ◌∷◌, ◌≡◌, ◌≢◌}
+use Rattle.proc_api.proofs.Imports.{sym, cond_both, ap, Action, Bool, Changes, Changes-set, Close, Finish, Flags, InputPort, List, Picture, Pull, Push, Table, [], after_close, after_finish, after_need, after_pull, after_push, append-nil, arith, can_push, closed, cond, emptied, eq-eqb, holds_data, in_count, input_at, is_out_finished, ne_eqb, no_input, noted, noted_want, out_count, output_at, over_flags, pushes_to, refl, true, with_actions, with_input, with_needed, with_output, ℕ, ◌++◌, ◌<◌, ◌||◌, ◌∙◌, ◌∷◌, ◌≡◌, ◌≢◌}
 use Rattle.proc_api.proofs.CallLaws.{pushes_to-append, pushes_to-noted_want}
 
 -- input i alone is changed, to x, and nothing is pushed
@@ -26,22 +26,17 @@ set-input : (p : Picture) (i : ℕ) (x : InputPort) (actions : List Action) → 
     → ((o : ℕ) → pushes_to o actions ≡ pushes_to o p.actions)
     → TurnsInput p i x (with_actions (with_input p i x) actions)
 unfolding with_actions with_input in_count
-set-input p i x actions lt same = record {
-  inputs = Changes-set no_input i _ p.inputs x lt refl;
-  outputs = refl;
-  pushes = same;
-}
+set-input p i x actions lt same =
+    grind (arith, Changes-set no_input i (λ was now. now ≡ x) p.inputs x lt refl)
 
 pub nothing-more : (o : ℕ) (a : Action) (xs : List Action) → pushes_to o (a ∷ []) ≡ []
     → pushes_to o (xs ++ a ∷ []) ≡ pushes_to o xs
-nothing-more o a xs e = pushes_to-append o xs (a ∷ []) ∙ ap (λ l. pushes_to o xs ++ l) e
-    ∙ append-nil (pushes_to o xs)
+nothing-more o a xs e = grind (arith, pushes_to-append, append-nil)
 
 noted-input : (p : Picture) (i : ℕ) (x : InputPort) (a : Action) → i < in_count p
     → ((o : ℕ) → pushes_to o (a ∷ []) ≡ []) → TurnsInput p i x (noted (with_input p i x) a)
 unfolding with_input
-noted-input p i x a lt e =
-    set-input p i x (p.actions ++ a ∷ []) lt (λ o. nothing-more o a p.actions (e o))
+noted-input p i x a lt e = search (arith, set-input, nothing-more)
 
 closed-already : (x : InputPort) → x.flags.fin_in ≡ true → x ≡ closed x
 closed-already x e = λ i. record { flags = record x.flags { fin_in = e i }; chunk = x.chunk }
@@ -60,31 +55,16 @@ needing x b = cond x.flags.fin_in x (with_needed x b)
 needed-already : (x : InputPort) (b : Bool) → x.flags.needed ≡ b → x ≡ with_needed x b
 needed-already x b e = λ i. record { flags = record x.flags { needed = e i }; chunk = x.chunk }
 
-when-open : (x : InputPort) (b : Bool) → x.flags.fin_in ≡ false → with_needed x b ≡ needing x b
-when-open x b e = ap (λ t. cond t x (with_needed x b)) (sym e)
-
-closed-or-needed : (x : InputPort) (b t n : Bool) → x.flags.fin_in ≡ t → (t || n) ≡ true
-    → (n ≡ true → x.flags.needed ≡ b) → x ≡ needing x b
-closed-or-needed x b true n e h k = ap (λ t. cond t x (with_needed x b)) (sym e)
-closed-or-needed x b false n e h k = needed-already x b (k h) ∙ when-open x b e
-
-left-false : (a b : Bool) → (a || b) ≡ false → a ≡ false
-left-false true b e = absurd (cc)
-left-false false b e = refl
-
 pub need-turns : (p : Picture) (i : ℕ) (b : Bool) → i < in_count p
     → TurnsInput p i (needing (input_at p i) b) (after_need p i b)
 unfolding with_input
-need-turns p i true lt = cond_both _ _ _ (TurnsInput p i (needing (input_at p i) true))
-    (λ e. same-input p i _ (closed-or-needed (input_at p i) true _ _ refl e (λ n. n)))
-    (λ e. rw (← when-open (input_at p i) true (left-false _ _ e))
-    (set-input p i (with_needed (input_at p i) true) (noted_want i true p.actions) lt
-    (λ o. pushes_to-noted_want o i true p.actions)))
-need-turns p i false lt = cond_both _ _ _ (TurnsInput p i (needing (input_at p i) false))
-    (λ e. same-input p i _ (closed-or-needed (input_at p i) false _ _ refl e (not-true _)))
-    (λ e. rw (← when-open (input_at p i) false (left-false _ _ e))
-    (set-input p i (with_needed (input_at p i) false) (noted_want i false p.actions) lt
-    (λ o. pushes_to-noted_want o i false p.actions)))
+need-turns p i b lt = grind (
+  arith,
+  same-input p i (input_at p i),
+  set-input p i (with_needed (input_at p i) b) (noted_want i b p.actions) lt
+      (λ o. pushes_to-noted_want o i b p.actions),
+  needed-already (input_at p i) b,
+)
 
 pub pull-turns : (p : Picture) (i : ℕ) → i < in_count p → holds_data (input_at p i).flags ≡ true
     → TurnsInput p i (emptied (input_at p i)) (after_pull p i)
@@ -99,12 +79,7 @@ noted-output : (p : Picture) (o : ℕ) (f : Flags) (a : Action) → o < out_coun
     → ((j : ℕ) → j ≢ o → pushes_to j (a ∷ []) ≡ [])
     → TurnsOutput p o f (pushes_to o (a ∷ [])) (noted (with_output p o f) a)
 unfolding with_actions with_output out_count
-noted-output p o f a lt e = record {
-  outputs = Changes-set over_flags o _ p.outputs f lt refl;
-  inputs = refl;
-  pushes = pushes_to-append o p.actions (a ∷ []);
-  other_pushes = λ j ne. nothing-more j a p.actions (e j ne);
-}
+noted-output p o f a lt e = search (arith, Changes-set, pushes_to-append, nothing-more)
 
 pushes-here : (o : ℕ) (chunk : Table) → pushes_to o (Push o chunk ∷ []) ≡ chunk ∷ []
 unfolding pushes_to
@@ -134,5 +109,4 @@ finish-turns p o lt = cond_both _ _ _ (TurnsOutput p o (finishing (output_at p o
     e (noted-output p o (record (output_at p o) { fin_out = true }) (Finish o) lt (λ j ne. refl)))
 
 pub finishing-leaves : (f : Flags) → (finishing f).fin_in ≡ f.fin_in
-finishing-leaves f = cond_both (is_out_finished f) f (record f { fin_out = true })
-    (λ g. g.fin_in ≡ f.fin_in) (λ e. refl) (λ e. refl)
+finishing-leaves f = grind arith

@@ -1,5 +1,5 @@
 -- Flags of a view, port by port.
-use Rattle.proc_api.proofs.Imports.{Flags, InputPort, List, Picture, [], all_port_flags, ap, common_steps, get_or-map, in_count, input_at, length-map, map, no_input, out_count, output_at, over_flags, take, take_all, take_more, ℕ, ◌++◌, ◌+◌, ◌<◌, ◌∙◌, ◌∷◌, ◌≡◌, ◌≤◌}
+use Rattle.proc_api.proofs.Imports.{ap, arith, Flags, InputPort, List, Picture, [], all_port_flags, common_steps, get_or-map, in_count, input_at, length-map, map, no_input, out_count, output_at, over_flags, take, take_all, take_more, ℕ, ◌++◌, ◌+◌, ◌<◌, ◌∙◌, ◌∷◌, ◌≡◌, ◌≤◌}
 
 pub next_input : (v : Picture) (i : ℕ) → i < in_count v
     → take (i + 1) (all_port_flags v).inputs ≡ take i (all_port_flags v).inputs
@@ -19,8 +19,7 @@ next_output v o lt = take_more v.outputs o over_flags lt
 pub all_inputs : (v : Picture) (flags : List Flags) (n : ℕ) → flags
     ≡ take n (all_port_flags v).inputs → in_count v ≤ n → flags ≡ (all_port_flags v).inputs
 unfolding in_count
-all_inputs v flags n e le = e
-    ∙ take_all n (map (λ (x : InputPort). x.flags) v.inputs) (rw length-map le)
+all_inputs v flags n e le = grind (arith, take_all, length-map)
 
 pub all_outputs : (v : Picture) (flags : List Flags) (n : ℕ) → flags ≡ take n v.outputs
     → out_count v ≤ n → flags ≡ v.outputs

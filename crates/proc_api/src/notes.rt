@@ -70,8 +70,7 @@ impl BoxNotes {
         ensures { self.new ≡ record self.old {
           view = Some (all_port_flags view.now);
           answer = Some (Prepared status);
-          acted =
-              false;
+          acted = false;
         } }
     {
         copy_inputs(&mut self.inputs, view);

@@ -1,27 +1,16 @@
-use Rattle.port_word.proofs.Imports.{Picture}
-use Rattle.port_word.proofs.Fitting.{output-in-range, room-push, fits-push}
+use Rattle.port_word.proofs.Imports.{with_output}
+use Rattle.port_word.proofs.Fitting.{fits-output, output-in-range, pushed, room-behind, room-output}
 use Rattle.port_word.proofs.port_view.PortView.push.Goals as goal
 
 pub note-requires : goal.note-requires
-note-requires c =
-    let p : Picture = record {
-      inputs = c.self.inside.inputs.items;
-      outputs =
-          c.self.inside.outputs.items;
-      actions = c.self.inside.actions.items;
-    } in
-    room-push p c.args.o c.index_mut-port.result.now c.args.chunk _ c.self.invariant
-    (output-in-range p _ c.args.o c.self.view_is c.requires) c.index_mut-port.ensures.value
-    c.if-port.false
+unfolding with_output
+note-requires c = room-behind _ _ _ (room-output _ c.args.o _ _ _ c.self.invariant (pushed _
+    c.args.o _ c.args.chunk _ c.self.invariant (output-in-range _ _ c.args.o c.self.view_is
+    c.requires) c.index_mut-port.ensures.value c.if-port.false))
 
 pub invariant_of-self-2 : goal.invariant_of-self-2
-invariant_of-self-2 c =
-    let p : Picture = record {
-      inputs = c.self.inside.inputs.items;
-      outputs =
-          c.self.inside.outputs.items;
-      actions = c.self.inside.actions.items;
-    } in
-    fits-push p c.args.o c.index_mut-port.result.now c.args.chunk _ _ _ c.self.invariant
-    (output-in-range p _ c.args.o c.self.view_is c.requires) c.index_mut-port.ensures.value
-    c.if-port.false c.note.ensures.items c.note.ensures.room
+unfolding with_output
+invariant_of-self-2 c = fits-output _ c.args.o _ _ _ _ _ c.self.invariant (pushed _ c.args.o
+    c.index_mut-port.result.now c.args.chunk _ c.self.invariant
+    (output-in-range _ _ c.args.o c.self.view_is c.requires) c.index_mut-port.ensures.value
+    c.if-port.false) c.note.ensures.items c.note.ensures.room
