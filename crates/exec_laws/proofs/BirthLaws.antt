@@ -1,5 +1,5 @@
 -- Births add up: those of a run are the ones so far, and then the next.
-use Rattle.exec_laws.proofs.Imports.{rules, AllByRecursion, AreAllBorn, AreBirths, AreOnce-append, Birth, Bool, BoxPicture, GivesBox, GrowthForm, HasForm, IsBirth, IsBlank, IsBorn, IsSome, IsTrue, KeepsBox, List, MayGrow, None, Option, Reserve, Some, Spec, SpecForm, TakeBlanks, Wire, [], all_places, ap, append-nil, append_assoc, arith, births_of, blanks_of, box_at, cases_Bool, cases_eq, cases_lt, cond, eq-eqb, false, flat_map-append, form_kind, get_or, get_or-append_right, get_or_append_left, grown_ranks, grown_wires, growth_list, growths_of, inl, inr, is_place, is_some, kept_growths, length, length-append, list_any, list_any-append, map, map-append, ne_eqb, or_parts, or_right, places_for, refl, reserve_of, set_ranks, subst, suc, sum_by-append, sym, true, wired_by, zero, ℕ, ◌++◌, ◌+◌, ◌-◌, ◌<◌, ◌==◌, ◌||◌, ◌∙◌, ◌∷◌, ◌≡◌}
+use Rattle.exec_laws.proofs.Imports.{rules, AllByRecursion, AreAllBorn, AreBirths, AreOnce-append, Birth, BoxPicture, GivesBox, GrowthForm, HasForm, IsBirth, IsBlank, IsBorn, IsSome, IsTrue, KeepsBox, List, MayGrow, None, Option, Reserve, Some, Spec, SpecForm, TakeBlanks, Wire, [], all_places, append-nil, append_assoc, arith, births_of, blanks_of, box_at, cases_Bool, cases_eq, cases_lt, eq-eqb, false, flat_map-append, get_or, get_or-append_right, get_or_append_left, grown_ranks, grown_wires, growth_list, growths_of, inl, inr, is_place, is_some, kept_growths, length, length-append, list_any, list_any-append, map-append, ne_eqb, or_parts, or_right, refl, set_ranks, suc, sym, true, zero, ℕ, ◌++◌, ◌-◌, ◌<◌, ◌==◌, ◌||◌, ◌∙◌, ◌∷◌, ◌≡◌}
 use Rattle.exec_laws.proofs.Acting.{stays-both}
 use Rattle.exec_laws.proofs.Nodes.{not-blank}
 
@@ -12,14 +12,6 @@ births-append : (n : ℕ) (xs ys : List Birth)
     → births_of n (xs ++ ys) ≡ births_of n xs ++ births_of n ys
 births-append n [] ys = refl
 births-append n (b ∷ xs) ys = grind (arith, births-append n xs ys)
-
-pub growths-append : (n : ℕ) (xs ys : List Birth)
-    → growths_of n (xs ++ ys) ≡ growths_of n xs ++ growths_of n ys
-growths-append n xs ys = grind (arith, births-append, map-append)
-
-pub wired-append : (n : ℕ) (xs ys : List Birth)
-    → wired_by n (xs ++ ys) ≡ wired_by n xs + wired_by n ys
-wired-append n xs ys = grind (arith, births-append, sum_by-append)
 
 pub wires-append : (wires : List Wire) (xs ys : List Birth)
     → grown_wires (grown_wires wires xs) ys ≡ grown_wires wires (xs ++ ys)
@@ -80,30 +72,16 @@ takes-both : (reserves : List Reserve) (a : List BoxPicture) (e xs ys : List Bir
     → TakeBlanks reserves a e xs → TakeBlanks reserves a (e ++ xs) ys
     → TakeBlanks reserves a e (xs ++ ys)
 takes-both reserves a e [] ys h k = rw append-nil at k
-takes-both reserves a e (x ∷ xs) ys h k = (
-  h.0,
-  takes-both reserves a (e ++ x ∷ []) xs ys h.1
-      (subst (λ l. TakeBlanks reserves a l ys) (sym (append_assoc e (x ∷ []) xs)) k),
-)
-
-or-swap : (p q r : Bool) → (p || (q || r)) ≡ ((q || p) || r)
-or-swap true true r = refl
-or-swap true false r = refl
-or-swap false true r = refl
-or-swap false false r = refl
+takes-both reserves a e (x ∷ xs) ys h k =
+    grind (arith, append_assoc, takes-both reserves a (e ++ x ∷ []) xs ys h.1)
 
 -- ---- boxes
 
 pub none-of : (s : Option Spec) → is_some s ≡ false → s ≡ None
-none-of None e = refl
-none-of (Some s) e = absurd (cc)
-
-is-blank : (p : BoxPicture) → (IsBorn p → ⊥) → p.spec ≡ None
-is-blank p h = grind (arith, none-of)
+none-of s e = grind arith
 
 has-born : (s : Option Spec) (f : SpecForm) → HasForm s f → IsSome s
-has-born (Some s) f h = refl
-has-born None f h = absurd h
+has-born s f h = grind arith
 
 pub keeps-gives : (p q : BoxPicture) → KeepsBox p q → GivesBox p q
 keeps-gives p q h = record { born = h.born; unborn = λ none. inl (h.unborn none) }
@@ -122,7 +100,7 @@ module _ (reserves : List Reserve) (a b c : List BoxPicture)
   stays-born n born = ((l n).born born).same.spec
 
   blank-before : (n : ℕ) → IsBlank (box_at b n) → IsBlank (box_at a n)
-  blank-before n none = grind (arith, is-blank, not-blank)
+  blank-before n none = grind (arith, not-blank, none-of)
 
   lawful-before : (n : ℕ) → IsTrue (box_at c n).lawful → IsTrue (box_at b n).lawful
   lawful-before n holds = grind (arith, none-of)
@@ -147,42 +125,21 @@ module _ (reserves : List Reserve) (a b c : List BoxPicture)
   ]
 
   kind-then : (n : ℕ) → (box_at b n).kind ≡ (box_at a n).kind
-  kind-then n = elim (cases_Bool (is_some (box_at a n).spec)) [
-    | inl some ↦ ((k n).born some).same.kind
-    | inr none ↦ elim ((k n).unborn (none-of _ none)) [
-      | inl same ↦ ap (λ (p : BoxPicture). p.kind) same
-      | inr w ↦ w.stays.same.kind ∙ w.loads.kind
-    ]
-  ]
+  kind-then n = grind (arith, none-of, cases_Bool (is_some (box_at a n).spec))
 
   blanks-then : (e : List Birth) (first count : ℕ)
       → blanks_of b e first count ≡ blanks_of a (xs ++ e) first count
   blanks-then e first zero = refl
   blanks-then e first (suc count) =
-      let n : ℕ = first + count in
-      rw (blanks-then e first count, kind-then n, born-then n, is-place-both xs e n)
-      (ap (λ t. blanks_of a (xs ++ e) first count
-      ++ cond t [] (record { node = n; kind = (box_at a n).kind } ∷ []))
-      (or-swap (is_place e n) (is_place xs n) (is_some (box_at a n).spec)))
+      grind (arith, kind-then, born-then, is-place-both, blanks-then e first count)
 
   takes-then : (e zs : List Birth) → TakeBlanks reserves b e zs → TakeBlanks reserves a (xs ++ e) zs
   takes-then e [] t = tt
-  takes-then e (z ∷ zs) t = (
-    (
-      t.0.0,
-      t.0.1 ∙ ap (λ l. places_for (map form_kind z.growth.specs) l t.0.0)
-          (blanks-then e (reserve_of reserves z.expander).first_node
-          (reserve_of reserves z.expander).nodes),
-    ),
-    subst (λ l. TakeBlanks reserves a l zs) (sym (append_assoc xs e (z ∷ [])))
-        (takes-then (e ++ z ∷ []) zs t.1),
-  )
+  takes-then e (z ∷ zs) t =
+      grind (arith, blanks-then, append_assoc, takes-then (e ++ z ∷ []) zs t.1)
 
   pub all-born-both : AreAllBorn a c (xs ++ ys)
-  all-born-both n lawful =
-      then n lawful ∙ ap (λ l. l ++ growths_of n ys) (first n (lawful-before n lawful))
-      ∙ append_assoc (kept_growths (box_at a n)) _ _
-      ∙ ap (λ l. kept_growths (box_at a n) ++ l) (sym (growths-append n xs ys))
+  all-born-both n lawful = grind (arith, lawful-before, append_assoc, births-append, map-append)
 
   pub births-both : AreBirths reserves a c (xs ++ ys)
   births-both = record {
@@ -218,15 +175,6 @@ module _ (reserves : List Reserve) (a b c : List BoxPicture)
         g.stay_blank n (h.stay_blank n none both.0) both.1;
     grew = λ n lawful some. all-born-both n lawful;
   }
-
--- where each box stays, none was born
-pub no-births : (reserves : List Reserve) (a b : List BoxPicture)
-    → ((n : ℕ) → KeepsBox (box_at a n) (box_at b n)) → AreBirths reserves a b []
-no-births reserves a b k = search (rules, cases_Bool, none-of)
-
-pub none-born : (a b : List BoxPicture) → ((n : ℕ) → KeepsBox (box_at a n) (box_at b n))
-    → AreAllBorn a b []
-none-born a b k = search (rules, append-nil, cases_Bool, none-of)
 
 -- ---- what a lawful box may give
 

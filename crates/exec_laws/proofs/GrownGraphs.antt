@@ -1,14 +1,13 @@
 -- A graph with the nodes and wires of a growth that has no flaw is a graph.
-use Rattle.exec_laws.proofs.Imports.{AreOnce, AreOnce-head, AreOnce-tail, Bool, HasInputWire, HasOutputWire, IsEdge, IsGraph, IsGraphSoFar, List, Me, New, NewEdge, Who, Wire, [], and_parts, append-nil, append_assoc, arith, both_ways, cases_Bool, cases_eq, edge-added, end_node, end_rank, eq-eqb, false, get_or, get_or-append_right, get_or-set_other, get_or-set_same, get_or_append_left, has_gap, has_large_port, has_wrong_end, inl, input-below-count, input-of-count, input_count, inr, is-gapless, is_gapless, is_named, is_out_of_order, is_port_taken, length, length-append, length-set, list_any, list_any_at, ltb-true, ne_eqb, new_wire, new_wires, no_wire, not, or_parts, or_right, output-below-count, output-of-count, output_count, rank_at, refl, set, set_ranks, subst, suc, sym, true, wire-input, wire-output, wire_at, zero, ℕ, ◌++◌, ◌+◌, ◌<◌, ◌==◌, ◌∙◌, ◌∷◌, ◌≡◌, ◌≢◌, ◌≤◌}
+use Rattle.exec_laws.proofs.Imports.{AreOnce, AreOnce-head, AreOnce-tail, Bool, HasInputWire, HasOutputWire, IsEdge, IsGraph, IsGraphSoFar, List, NewEdge, Who, Wire, [], and_parts, append-nil, append_assoc, arith, both_ways, cases_Bool, cases_eq, edge-added, end_node, eq-eqb, false, get_or, get_or-append_right, get_or-set_other, get_or-set_same, get_or_append_left, has_gap, has_large_port, has_wrong_end, inl, input-below-count, input-of-count, input_count, inr, is-gapless, is_gapless, is_named, is_out_of_order, is_port_taken, length, length-append, length-set, list_any, list_any_at, ltb-true, ne_eqb, new_wire, new_wires, no_wire, not, or_parts, or_right, output-below-count, output-of-count, output_count, rank_at, set, set_ranks, subst, suc, sym, true, wire-input, wire-output, wire_at, zero, ℕ, ◌++◌, ◌+◌, ◌<◌, ◌==◌, ◌∙◌, ◌∷◌, ◌≡◌, ◌≢◌, ◌≤◌}
 
 -- ---- the ranks of new nodes
 
 pub set_ranks-length : (ranks places new : List ℕ)
     → length (set_ranks ranks places new) ≡ length ranks
-set_ranks-length ranks [] new = refl
-set_ranks-length ranks (p ∷ places) [] = refl
 set_ranks-length ranks (p ∷ places) (r ∷ new) =
     set_ranks-length (set ranks p r) places new ∙ length-set ranks p r
+set_ranks-length ranks places new = grind arith
 
 abbrev Avoids : List ℕ → ℕ → Type 0
 Avoids places n = (k : ℕ) → k < length places → get_or places k 0 ≢ n
@@ -19,19 +18,16 @@ avoids-rest p places n h k lt = h (suc k) (omega (arith, lt))
 pub set_ranks-other : (ranks places new : List ℕ) (n : ℕ) → Avoids places n
     → rank_at (set_ranks ranks places new) n ≡ rank_at ranks n
 unfolding rank_at
-set_ranks-other ranks [] new n h = refl
-set_ranks-other ranks (p ∷ places) [] n h = refl
 set_ranks-other ranks (p ∷ places) (r ∷ new) n h =
     let away : n ≢ p = (λ e. h 0 (omega arith) (sym e)) in
     set_ranks-other (set ranks p r) places new n (avoids-rest p places n h)
     ∙ get_or-set_other ranks p n r 0 away
+set_ranks-other ranks places new n h = grind arith
 
 pub set_ranks-at : (ranks places new : List ℕ) → AreOnce places
     → ((k : ℕ) → k < length places → get_or places k 0 < length ranks) → (k : ℕ) → k < length places
     → k < length new → rank_at (set_ranks ranks places new) (get_or places k 0) ≡ get_or new k 0
 unfolding rank_at
-set_ranks-at ranks [] new once within k lt ln = absurd (omega (arith, lt))
-set_ranks-at ranks (p ∷ places) [] once within k lt ln = absurd (omega (arith, ln))
 set_ranks-at ranks (p ∷ places) (r ∷ new) once within zero lt ln =
     set_ranks-other (set ranks p r) places new p (AreOnce-head p places once)
     ∙ get_or-set_same ranks p r 0 (within 0 (omega arith))
@@ -39,12 +35,12 @@ set_ranks-at ranks (p ∷ places) (r ∷ new) once within (suc k) lt ln =
     set_ranks-at (set ranks p r) places new (AreOnce-tail p places once)
     (λ j lj. rw length-set (within (suc j) (omega (arith, lj)))) k (omega (arith, lt))
     (omega (arith, ln))
+set_ranks-at ranks places new once within k lt ln = grind arith
 
 -- ---- wires are added one after another
 
 pub not-false : (b : Bool) → not b ≡ false → b ≡ true
-not-false true h = refl
-not-false false h = absurd (cc)
+not-false b h = grind arith
 
 -- a growth of node n, with rank r, without a flaw of its edges
 pub record IsFlawless (r : ℕ) (new : List ℕ) (wires : List Wire) (n count : ℕ) (places : List ℕ)
@@ -58,18 +54,11 @@ module _ (ranks : List ℕ) (r n count : ℕ) (new places : List ℕ) (lt : n < 
     (own : rank_at ranks n ≡ r) (within : (k : ℕ) → k < count → get_or places k 0 < length ranks)
     (at : (k : ℕ) → k < count → rank_at ranks (get_or places k 0) ≡ get_or new k 0) where
   end-there : (w : Who) → is_named count w ≡ true → end_node n places w < length ranks
-  end-there Me h = lt
-  end-there (New k) h = within k (ltb-true k count h)
-
-  end-ranked : (w : Who) → is_named count w ≡ true
-      → rank_at ranks (end_node n places w) ≡ end_rank r new w
-  end-ranked Me h = own
-  end-ranked (New k) h = at k (ltb-true k count h)
+  end-there w h = grind (arith, ltb-true)
 
   new-edge : (e : NewEdge) → has_wrong_end count e ≡ false → is_out_of_order r new e ≡ false
       → has_large_port e ≡ false → IsEdge ranks (new_wire n places e)
-  new-edge e wrong order large =
-      grind (arith, and_parts, not-false, or_parts, ltb-true, end-there, end-ranked)
+  new-edge e wrong order large = grind (arith, and_parts, not-false, or_parts, ltb-true, end-there)
 
   connected : (wires : List Wire) (edges : List NewEdge) → IsGraphSoFar ranks wires []
       → IsFlawless r new wires n count places edges → length wires + length edges ≤ 1024
@@ -175,10 +164,7 @@ module _ (ranks : List ℕ) (wires : List Wire) (g : IsGraph ranks wires []) (n 
   }
 
   so_far : IsGraphSoFar grown (wires ++ more) []
-  so_far = connected grown (rank_at ranks n) n (length places) new places (rw len lt)
-      (set_ranks-other ranks places new n other) (λ k lk. rw len (within k lk))
-      (λ k lk. set_ranks-at ranks places new once within k lk (rw as_many lk)) wires edges before f
-      few
+  so_far = grind (arith, connected, len, set_ranks-other, set_ranks-at, before)
 
   -- a node at which no new wire ends or begins, or one without a gap by the test
   at-place : (ms : List ℕ) (m : ℕ) → list_any (has_gap (wires ++ more)) ms ≡ false
@@ -195,9 +181,7 @@ module _ (ranks : List ℕ) (wires : List Wire) (g : IsGraph ranks wires []) (n 
   -- each end of a new wire is n or a place
   end-listed : (w : Who) → is_named (length places) w ≡ true
       → list_any (λ k. k == end_node n places w) (n ∷ places) ≡ true
-  end-listed Me h = rw (eq-eqb n n refl) refl
-  end-listed (New k) h = or_right _ _ (list_any_at (λ j. j == get_or places k 0) places k 0
-      (ltb-true k (length places) h) (eq-eqb _ _ refl))
+  end-listed w h = grind (arith, eq-eqb, or_right, list_any_at, ltb-true)
 
   ends-listed : (es : List NewEdge) → list_any (has_wrong_end (length places)) es ≡ false
       → (e : ℕ) → e < length (new_wires n places es) → (m : ℕ)

@@ -1,6 +1,6 @@
 -- The growth of a list of parts takes the first blank sources of its reserve, one for each path,
 -- and has no flaw where a source and an edge are left for each.
-use Rattle.exec_laws.proofs.Imports.{All-from_get_or, Birth, Blank, Bool, BoxPicture, GrowthForm, IsGraph, Kind, Left, List, NewEdge, None, PartSpec, Wire, [], all_kinds, ap, arith, blanks_of, box_at, cases_lt, cond, false, find, form_kind, get_or, get_or-append_right, get_or-map-range_with_len, get_or-range_with_len, get_or_append_left, grown_kind, growth_flaw, has_gap, has_input, has_large_port, has_output, has_wrong_end, inl, inr, is-gapless, is_blank_of, is_gapless, is_out_of_order, is_place, is_port_taken, lacks_blank, le-ltb, length, length-append, output_count, length-map-range_with_len, list_any, list_any-append, list_any_none, list_growth, listed_edge, listed_edges, listed_parts, lt-ltb, map, map-range_with_len_more, nat_lt, ne_eqb, new_wires, no_wire, output-below-count, output-of-count, places_for, range_with_len, rank_at, refl, same_kind, subst, suc, sum_by-cons, sym, true, wire-input, wire-output, wire_at, zero, ℕ, ◌&&◌, ◌++◌, ◌+◌, ◌-◌, ◌<◌, ◌==◌, ◌∙◌, ◌∷◌, ◌≡◌, ◌≢◌, ◌≤◌, ◌⊎◌}
+use Rattle.exec_laws.proofs.Imports.{All-from_get_or, Birth, Blank, Bool, BoxPicture, GrowthForm, IsGraph, Kind, Left, List, NewEdge, None, PartSpec, Wire, [], all_kinds, ap, arith, blanks_of, box_at, cases_lt, cond, false, find, form_kind, get_or, get_or-append_right, get_or-map-range_with_len, get_or-range_with_len, get_or_append_left, grown_kind, growth_flaw, has_gap, has_input, has_large_port, has_output, has_wrong_end, inl, inr, is-gapless, is_blank_of, is_gapless, is_out_of_order, is_place, is_port_taken, lacks_blank, le-ltb, length, length-append, output_count, length-map-range_with_len, list_any, list_any-append, list_any_none, list_growth, listed_edge, listed_edges, listed_parts, lt-ltb, map, map-range_with_len_more, nat_lt, ne_eqb, new_wires, no_wire, output-below-count, output-of-count, places_for, range_with_len, rank_at, refl, same_kind, subst, suc, sum_by-cons, sym, true, wire-input, wire-output, wire_at, zero, ℕ, ◌&&◌, ◌++◌, ◌+◌, ◌<◌, ◌==◌, ◌∙◌, ◌∷◌, ◌≡◌, ◌≢◌, ◌≤◌, ◌⊎◌}
 use Rattle.std.specs.List.{count_by}
 
 -- ---- blank sources, and the places that a list takes
@@ -44,11 +44,9 @@ edges-count k (path ∷ paths) = ap suc (edges-count (k + 1) paths)
 pub places-listed : (list : PartSpec) (i : ℕ) (paths : List (List ℕ)) (first count past : ℕ)
     → length paths ≤ count → places_for (map form_kind (listed_parts list i paths))
     (sources first count) past ≡ range_with_len first (length paths)
-places-listed list i [] first count past le = refl
-places-listed list i (path ∷ paths) first zero past le = absurd (omega (arith, le))
 places-listed list i (path ∷ paths) first (suc count) past le =
-    ap (λ l. first ∷ l)
-    (places-listed list (i + 1) paths (first + 1) count (suc past) (omega (arith, le)))
+    grind (arith, places-listed list (i + 1) paths (first + 1) count (suc past) (omega (arith, le)))
+places-listed list i paths first count past le = grind arith
 
 -- the wire from its source to input k
 abbrev pub source_wire : (n first k : ℕ) → Wire
@@ -75,16 +73,13 @@ none-listed test bound i (path ∷ paths) le h =
 
 ranks-listed : (paths : List (List ℕ)) (k : ℕ)
     → let none : ℕ = 0 in get_or (map (λ path. none) paths) k 0 ≡ none
-ranks-listed [] k = refl
-ranks-listed (path ∷ paths) zero = refl
 ranks-listed (path ∷ paths) (suc k) = ranks-listed paths k
+ranks-listed paths k = grind arith
 
 few-wanted : (list : PartSpec) (i : ℕ) (paths : List (List ℕ)) (first count : ℕ) (k : Kind)
     → length paths ≤ count
     → count_by (λ j. same_kind j k) (map form_kind (listed_parts list i paths))
     ≤ count_by (is_blank_of k) (sources first count)
-few-wanted list i [] first count k le = grind arith
-few-wanted list i (path ∷ paths) first zero k le = absurd (omega (arith, le))
 few-wanted list i (path ∷ paths) first (suc count) k le =
     omega (
       arith,
@@ -94,6 +89,7 @@ few-wanted list i (path ∷ paths) first (suc count) k le =
           (sources (first + 1) count),
       few-wanted list (i + 1) paths (first + 1) count k (omega (arith, le)),
     )
+few-wanted list i paths first count k le = grind arith
 
 none-found : (test : Kind → Bool) (ks : List Kind) → ((k : Kind) → test k ≡ false)
     → find test ks ≡ None
@@ -116,13 +112,16 @@ module _ (n first : ℕ) where
       → ((k : ℕ) → i ≤ k → k < i + m → has_output wires (first + k) 0 ≡ false)
       → is_port_taken wires (map (source_wire n first) (range_with_len i m)) ≡ false
   none-taken wires i zero ins outs = refl
-  none-taken wires i (suc m) ins outs =
-      rw (ins i (omega arith), outs i (omega arith) (omega arith))
-      (none-taken (wires ++ source_wire n first i ∷ []) (i + 1) m
-      (λ k le. input-free wires i k (ins k (omega (arith, le)))
-      (λ e. absurd (omega (arith, le, e))))
-      (λ k le lt. output-free wires i (first + k) (outs k (omega (arith, le)) (omega (arith, lt)))
-      (λ e. absurd (omega (arith, le, e)))))
+  none-taken wires i (suc m) ins outs = grind (
+    arith,
+    input-free,
+    output-free,
+    none-taken (wires ++ source_wire n first i ∷ []) (i + 1) m
+        (λ k le. input-free wires i k (ins k (omega (arith, le)))
+        (λ e. absurd (omega (arith, le, e))))
+        (λ k le lt. output-free wires i (first + k) (outs k (omega (arith, le)) (omega (arith, lt)))
+        (λ e. absurd (omega (arith, le, e)))),
+  )
 
 -- a list at node n, to which no wire goes, and as many nodes from `first` on at which there is none
 module _ (ranks : List ℕ) (wires : List Wire) (g : IsGraph ranks wires []) (n first m : ℕ)
@@ -159,37 +158,27 @@ module _ (ranks : List ℕ) (wires : List Wire) (g : IsGraph ranks wires []) (n 
   old-or-new : (e : ℕ) → e < length all
       → ((e < length wires) × (wire_at all e ≡ wire_at wires e)) ⊎ IsNew e
   unfolding wire_at
-  old-or-new e lt = elim (cases_lt e (length wires)) [
-    | inl less ↦ inl (less, kept-wire e less)
-    | inr le ↦
-        let below : e - length wires < m = omega (
-          arith,
-          lt,
-          le,
-          length-append wires more,
-          length-map-range_with_len (source_wire n first) 0 m,
-        ) in
-        inr record {
-          source_of = e - length wires;
-          below = below;
-          is = get_or-append_right wires more e no_wire le
-              ∙ get_or-map-range_with_len (source_wire n first) 0 m (e - length wires)
-              (e - length wires) no_wire below (omega arith);
-        }
-  ]
+  old-or-new e lt = grind (
+    arith,
+    cases_lt,
+    kept-wire,
+    length-append,
+    length-map-range_with_len,
+    get_or-append_right,
+    get_or-map-range_with_len,
+  )
 
   -- the wire of source k
   at-source : (k : ℕ) → k < m → (length wires + k < length all)
       × (wire_at all (length wires + k) ≡ source_wire n first k)
   unfolding wire_at
-  at-source k lt =
-      grind (
-        arith,
-        length-append,
-        length-map-range_with_len,
-        get_or-append_right,
-        get_or-map-range_with_len,
-      )
+  at-source k lt = grind (
+    arith,
+    length-append,
+    length-map-range_with_len,
+    get_or-append_right,
+    get_or-map-range_with_len,
+  )
 
   gapless-here : is_gapless all n ≡ true
   gapless-here = is-gapless all n
@@ -229,15 +218,10 @@ module _ (ranks : List ℕ) (wires : List Wire) (g : IsGraph ranks wires []) (n 
 
   none-gap : (i k : ℕ) → i + k ≤ m → list_any (has_gap all) (range_with_len (first + i) k) ≡ false
   none-gap i zero le = refl
-  none-gap i (suc k) le =
-      let next : first + i + 1 ≡ first + (i + 1) = omega arith in
-      rw (gapless-there i (omega (arith, le)), next) (none-gap (i + 1) k (omega (arith, le)))
+  none-gap i (suc k) le = grind (arith, gapless-there, none-gap (i + 1) k (omega (arith, le)))
 
   no-gaps : list_any (has_gap all) (n ∷ range_with_len first m) ≡ false
-  no-gaps =
-      let start : first + 0 ≡ first = omega arith in
-      rw gapless-here (subst (λ q. list_any (has_gap all) (range_with_len q m) ≡ false) start
-      (none-gap 0 m (omega arith)))
+  no-gaps = grind (arith, gapless-here, none-gap 0 m (omega arith))
 
 -- ---- no flaw
 

@@ -1,5 +1,5 @@
 -- What actions leave at one port.
-use Rattle.exec_laws.proofs.Imports.{Action, Bool, ChangedByCalls, EachAction, EdgeState, Flags, Input, InputAllows, InputPort, List, None, Option, Output, OutputAllows, Picture, Port, PortCall, ShowsInFlags, Table, [], action_port, after_action, after_call, after_calls, ap, arith, chunk_after, chunk_step, chunks_of, eqb-true, false, holds_data, in_count, in_count-with_actions, in_count-with_input, in_count-with_output, input_after, input_allows, input_step, is_some, out_count, out_count-with_actions, out_count-with_input, out_count-with_output, output_allows, output_step, pushes_to, refl, rules, taken_out, true, with_actions, with_input, with_output, ℕ, ◌++◌, ◌||◌, ◌∙◌, ◌∷◌, ◌≡◌, ◌≤◌, ◌⊎◌}
+use Rattle.exec_laws.proofs.Imports.{Action, ChangedByCalls, EachAction, Flags, Input, InputAllows, InputPort, List, None, Option, Output, OutputAllows, Picture, Port, PortCall, ShowsInFlags, Table, [], action_port, after_call, after_calls, ap, arith, chunk_after, chunk_step, eqb-true, holds_data, in_count, in_count-with_actions, in_count-with_input, in_count-with_output, input_after, input_allows, input_step, is_some, out_count, out_count-with_actions, out_count-with_input, out_count-with_output, output_allows, output_step, pushes_to, refl, rules, true, with_actions, with_input, with_output, ℕ, ◌||◌, ◌∙◌, ◌∷◌, ◌≡◌, ◌≤◌, ◌⊎◌}
 
 -- ---- an input and its chunk, while its node acts
 
@@ -21,11 +21,6 @@ module _ (d x : Option Table) (i : ℕ) where
       → Lies d x f c → Lies d x (input_after i xs f) (chunk_after i xs c)
   lies-after [] f c allows h = h
   lies-after (a ∷ xs) f c allows h = lies-after xs _ _ allows.1 (lies-on a f c allows.0 h)
-
--- what was taken out, and what is left
-pub taken-left : (c d : Option Table) → (d ≡ c) ⊎ (d ≡ None)
-    → chunks_of c ≡ taken_out c d ++ chunks_of d
-taken-left c d h1 = grind arith
 
 -- ---- pushes
 
@@ -62,26 +57,10 @@ abbrev pub port_step : Port → Action → Flags → Flags
 port_step (Input i) = input_step i
 port_step (Output o) = output_step o
 
--- what an output allows
-abbrev pub port_allows : Port → Action → Flags → Bool
-port_allows (Input i) a f = true
-port_allows (Output o) a f = output_allows o a f
-
-pub step-away : (p : Port) (a : Action) (f : Flags) → (p ≡ action_port a → ⊥) → port_step p a f ≡ f
-step-away p a f h1 = grind arith
-
 pub push-away : (o : ℕ) (a : Action) (xs : List Action) → (Output o ≡ action_port a → ⊥)
     → pushes_to o (a ∷ xs) ≡ pushes_to o xs
 unfolding pushes_to
 push-away o a xs h1 = grind arith
-
--- what is pushed here lies in the edge, which was empty
-pub push-here : (a : Action) (xs : List Action) (o : ℕ) (e : EdgeState) → Output o ≡ action_port a
-    → (e.flags.has_data ≡ false → e.chunk ≡ None) → port_allows (action_port a) a e.flags ≡ true
-    → chunks_of e.chunk ++ pushes_to o (a ∷ xs)
-    ≡ chunks_of (after_action a e).chunk ++ pushes_to o xs
-unfolding pushes_to
-push-here a xs o e h1 h2 h3 = search rules
 
 -- ---- calls keep the number of ports
 

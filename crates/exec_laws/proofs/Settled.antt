@@ -16,6 +16,23 @@ rests-case : (last : Option Status) (view : Picture) → Rests last view → (Wa
     → (WaitsForRoom view → ⊥) → ⊥
 rests-case last view h1 h2 h3 = search rules
 
+-- an end of an edge
+module _ {count : ℕ} {wires : List Wire} {cells : ℕ → CellPicture} {edges : ℕ → EdgeState}
+    (r : Running count wires cells edges) (quiet : (m : ℕ) → (cells m).view.actions ≡ [])
+    {e n : ℕ} {p : Port} (h : HasEdge wires n p e) where
+  pub node-there : n < count
+  node-there = search rules
+
+  pub end-node : NodeHolds wires n (cells n) (r.pulled n) (r.pushed n)
+  end-node = r.each n node-there (r.born e n p h)
+
+  pub end-here : QuietEnd p (cells n) (edges e)
+  end-here = end-quiet p (cells n) (edges e) (quiet n) (r.ends e n p h)
+
+  pub end-shown : HasPort (cells n).view p
+  end-shown = port-shown _ _ (cells n).view p end-node.view
+      (port-below count wires r.graph n e p h)
+
 module _ {count : ℕ} {wires : List Wire} {cells : ℕ → CellPicture} {edges : ℕ → EdgeState}
     (r : Running count wires cells edges) (quiet : (m : ℕ) → (cells m).view.actions ≡ [])
     (due : (n : ℕ) → n < count → is_waiting (cells n).mark.state ≡ false) where
@@ -30,27 +47,13 @@ module _ {count : ℕ} {wires : List Wire} {cells : ℕ → CellPicture} {edges 
       → NodeHolds wires n (cells n) (r.pulled n) (r.pushed n)
   open-node n h1 h2 = search (rules, busy-born, rests-so)
 
-  -- ---- an end of an edge
-
-  module _ {e n : ℕ} {p : Port} (h : HasEdge wires n p e) where
-    pub node-there : n < count
-    node-there = search rules
-
-    pub end-node : NodeHolds wires n (cells n) (r.pulled n) (r.pushed n)
-    end-node = r.each n node-there (r.born e n p h)
-
-    pub end-here : QuietEnd p (cells n) (edges e)
-    end-here = end-quiet p (cells n) (edges e) (quiet n) (r.ends e n p h)
-
-    pub end-shown : HasPort (cells n).view p
-    end-shown = port-shown _ _ (cells n).view p end-node.view
-        (port-below count wires r.graph n e p h)
-
-    -- where a port isn't finished, the node at its end is at rest
-    pub end-open : is_out_finished (edges e).flags ≡ false → is_open n ≡ true
-    end-open unfinished = unless (is_open n) (is_out_finished (edges e).flags) (λ over.
-        let ports = (over-holds n node-there (r.born e n p h) over).ports in
-        search (rules, ports, end-shown, end-here)) unfinished
+  -- where a port isn't finished, the node at its end is at rest
+  pub end-open : {e n : ℕ} {p : Port} → HasEdge wires n p e
+      → is_out_finished (edges e).flags ≡ false → is_open n ≡ true
+  end-open {e} {n} {p} h unfinished = unless (is_open n) (is_out_finished (edges e).flags) (λ over.
+      let there = node-there r quiet h in
+      let ports = (over-holds n there (r.born e n p h) over).ports in
+      search (rules, ports, end-shown r quiet h, end-here r quiet h)) unfinished
 
   -- ---- no node waits
 
@@ -76,17 +79,17 @@ module _ {count : ℕ} {wires : List Wire} {cells : ℕ → CellPicture} {edges 
         let w : Wire = wire_at wires e in
         let far : HasEdge wires w.from (Output w.out) e =
         record { in_range = here.in_range; at_port = (refl, refl) } in
-        let sees = (end-here here).known (rests-so _ open_now) in
+        let sees = (end-here r quiet here).known (rests-so _ open_now) in
         let unfinished : is_out_finished (edges e).flags ≡ false =
         grind (arith, sees, d.empty, d.unfinished) in
         let waits = end-open far unfinished in
         let ranked : rank w.from < rank n =
         rw here.at_port.0 at (r.graph.graph.so_far.edges e here.in_range).ranked in
-        rests-case _ _ (rests w.from (node-there far) waits)
-        (λ f. no-data-wait k w.from (node-there far) (omega (arith, ranked, below)) waits f)
+        rests-case _ _ (rests w.from (node-there r quiet far) waits)
+        (λ f. no-data-wait k w.from (node-there r quiet far) (omega (arith, ranked, below)) waits f)
         (λ room.
-        let knows = (end-here far).known (rests-so _ waits) in
-        let full = room.full w.out (end-shown far) in
+        let knows = (end-here r quiet far).known (rests-so _ waits) in
+        let full = room.full w.out (end-shown r quiet far) in
         grind (arith, sees, knows, full, d.needed, d.empty, unfinished))
 
     -- A wait for room goes up the ranks: the consumer of an unfinished output isn't over and
@@ -102,15 +105,15 @@ module _ {count : ℕ} {wires : List Wire} {cells : ℕ → CellPicture} {edges 
         let w : Wire = wire_at wires e in
         let far : HasEdge wires w.to (Input w.input) e =
         record { in_range = here.in_range; at_port = (refl, refl) } in
-        let knows = (end-here here).known (rests-so _ open_now) in
+        let knows = (end-here r quiet here).known (rests-so _ open_now) in
         let unfinished : is_out_finished (edges e).flags ≡ false =
         grind (arith, knows, q.unfinished) in
         let waits = end-open far unfinished in
         let ranked : rank n < rank w.to =
         rw here.at_port.0 at (r.graph.graph.so_far.edges e here.in_range).ranked in
-        rests-case _ _ (rests w.to (node-there far) waits)
-        (λ f. no-data-wait (suc (rank w.to)) w.to (node-there far) (omega arith) waits f)
-        (λ f. no-room-wait k w.to (node-there far) (omega (arith, ranked, above)) waits f)
+        rests-case _ _ (rests w.to (node-there r quiet far) waits)
+        (λ f. no-data-wait (suc (rank w.to)) w.to (node-there r quiet far) (omega arith) waits f)
+        (λ f. no-room-wait k w.to (node-there r quiet far) (omega (arith, ranked, above)) waits f)
 
     -- every node is over
     pub all-over : (n : ℕ) → n < count → is_open n ≡ false

@@ -1,26 +1,14 @@
 -- A node that has seen its ports is prepared.
-use Rattle.exec_laws.proofs.Imports.{FollowsKept, BoxHolds, BoxPicture, CellPicture, EdgeState, Flags, HasFinished, HasPort, PictureHolds, Input, IsNodeOver, IsPort, IsTrue, ViewKnows, List, Lists, MarkHolds, NodeHolds, Output, Picture, Port, Prepared, Running, Some, Status, StatusComes, StatusHolds, NodeTurns, ViewHolds, Wire, [], all_port_flags, ap, append-nil, append_assoc, as-kept-noted, changed-by-both, chunks_of, difference-calls, false, follows-noted, get_or-eq_default, in_count, inl, input_after, input_at, input_count, kept_flags, kept_input-of, kept_inputs-of, kept_output-of, kept_outputs-of, out_count, output_after, output_at, output_count, port_flags, position-still, pushed_at, pushes_to, refl, rules, state_after, sym, taken_out, with_pulled, with_pushed, ℕ, ◌++◌, ◌<◌, ◌∙◌, ◌≡◌, ◌≢◌, ◌≤◌}
-use Rattle.exec_laws.proofs.Nodes.{busy-born, moved-on}
-use Rattle.exec_laws.proofs.Ports.{Lies, changed-inputs, changed-outputs, full-unpushed, lies-after, past-unpushed, taken-left}
-use Rattle.exec_laws.proofs.Seeing.{port-below}
-use Rattle.exec_laws.proofs.Sides.{QuietEnd, SideMoves, end-quiet, input-itself, output-known}
+use Rattle.exec_laws.proofs.Imports.{arith, FollowsKept, BoxHolds, BoxPicture, CellPicture, EdgeState, Flags, HasFinished, HasPort, PictureHolds, Input, IsTrue, Lists, MarkHolds, Picture, Port, Some, NodeTurns, ViewHolds, [], all_port_flags, ap, as-kept-noted, changed-by-both, difference-calls, follows-noted, get_or-eq_default, in_count, inl, input_after, input_at, kept_flags, kept_input-of, kept_inputs-of, kept_output-of, kept_outputs-of, out_count, output_at, port_flags, position-still, pushed_at, pushes_to, refl, rules, state_after, sym, with_pulled, with_pushed, ℕ, ◌∙◌, ◌≡◌, ◌≤◌}
+use Rattle.exec_laws.proofs.Ports.{Lies, changed-inputs, changed-outputs, full-unpushed, lies-after, past-unpushed}
+use Rattle.exec_laws.proofs.Sides.{QuietEnd}
 use Rattle.proc_api.specs.declared.status.Status.TheVariants as status
-use Rattle.exec_laws.specs.declared.edges.NodeStatus.TheVariants as node
 
 -- ---- what the answer says of the node
 
 kept-noted : (q : BoxPicture) (w : Picture) → q.notes.view ≡ Some (all_port_flags w) → (p : Port)
     → HasPort w p → kept_flags q p ≡ port_flags w p
-kept-noted q w e (Input i) lt = kept_input-of q w e i lt
-kept-noted q w e (Output o) lt = kept_output-of q w e o lt
-
-mark-after : (s : Status) (inputs outputs : ℕ) (q : BoxPicture) (v : Picture)
-    → q.notes.answer ≡ Some (Prepared s) → q.notes.acted ≡ false
-    → (IsTrue q.lawful → StatusHolds s v) → (IsTrue q.lawful → StatusComes s q)
-    → (s ≡ status.Finished → IsNodeOver inputs outputs q v)
-    → (s ≢ status.Finished → q.notes.view ≡ Some (all_port_flags v))
-    → MarkHolds (state_after s) (Some s) inputs outputs q v
-mark-after s inputs outputs q v h1 h2 h3 h4 h5 h6 = search (rules, kept-noted)
+kept-noted q w e p lt = grind (arith, kept_input-of, kept_output-of)
 
 past : (v w : Picture) (ins : Lists) (i : ℕ) → in_count v ≤ i → ins i ≡ []
     → with_pulled v w ins i ≡ []
@@ -67,37 +55,6 @@ module _ (m k : ℕ) (c d : CellPicture) (t : NodeTurns c d) (quiet : c.view.act
   pub pushed-by-actions : (o : ℕ) → pushed_at c.view t.left o ≡ pushes_to o d.view.actions
   pushed-by-actions o = search (rules, full-unpushed, explained)
 
-  -- an end of an edge that the view knows moves on: it shows the edge as its actions will leave it
-  turned-end : (p : Port) (e : EdgeState) → port_flags c.view p ≡ e.flags → QuietEnd p c e
-      → SideMoves p c d e e pulled pushed ins outs
-  unfolding pushes_to
-  turned-end (Input i) e knows end =
-      let exact : (input_at d.view i).flags ≡ input_after i d.view.actions e.flags =
-      explained.explains.input_flags i ∙ ap (λ f. input_after i d.view.actions f) knows in
-      let l = lies i e knows end in
-      let left : chunks_of (input_at c.view i).chunk
-      ≡ taken_out (input_at c.view i).chunk (input_at t.left i).chunk
-      ++ chunks_of (input_at d.view i).chunk =
-      rw (← t.leaves.chunks.inputs i) (taken-left _ _ l.left) in
-      record {
-        holds = record {
-          follows = rw (← exact) (input-itself (input_at d.view i).flags);
-          data_there = l.there;
-          one_chunk = l.one;
-          known = λ _. exact;
-        };
-        passes = rw (append_assoc (pulled i), ← left) refl;
-      }
-  turned-end (Output o) e knows end = record {
-    holds = (
-      output-known d.mark.state (output_at d.view o) _
-          (explained.explains.output_flags o ∙ ap (λ f. output_after o d.view.actions f) knows),
-      rw knows at (explained.explains.outputs_allow o),
-    );
-    passes = λ l all. rw (pushed-by-actions o)
-        (ap (λ x. x ++ pushes_to o d.view.actions) (rw (quiet, append-nil) at all));
-  }
-
   was-lawful : IsTrue d.box.lawful → IsTrue c.box.lawful
   was-lawful l = sym t.prepares.stays.same.lawful ∙ l
 
@@ -136,56 +93,4 @@ module _ (m k : ℕ) (c d : CellPicture) (t : NodeTurns c d) (quiet : c.view.act
   turned-kept so = rw (left-so so) (follows-noted d.box t.left t.prepares.notes.view)
 
   pub turned-mark : MarkHolds (state_after t.answer) (Some t.answer) m k d.box d.view
-  turned-mark = mark-after t.answer _ _ d.box d.view t.prepares.notes.answer
-      t.prepares.notes.not_acted
-      (λ l. rw (left-so (λ _. l)) (t.prepares.lawful (was-lawful l)).law)
-      (λ l. (t.prepares.lawful (was-lawful l)).comes)
-      (λ e. record {
-        answer = t.prepares.notes.answer ∙ ap (λ s. Some (Prepared s)) e;
-        ports = t.leaves.finished e;
-        kept = λ l. has-finished l e;
-      })
-      (λ ne. rw (left-so (λ e. absurd (ne e))) t.prepares.notes.view)
-
-turned-node : (wires : List Wire) (n : ℕ) (c d : CellPicture) (t : NodeTurns c d)
-    → c.view.actions ≡ [] → (pulled pushed : Lists) → NodeHolds wires n c pulled pushed
-    → NodeHolds wires n d (with_pulled c.view t.left pulled) (with_pushed c.view t.left pushed)
-turned-node wires n c d t quiet pulled pushed h =
-    let m = input_count wires n in
-    let k = output_count wires n in
-    rw t.own record {
-      box = turned-box m k c d t quiet pulled pushed h.box h.view;
-      view = turned-view m k c d t quiet pulled pushed h.box h.view;
-      numbers = h.numbers;
-      kept = λ e. turned-kept m k c d t quiet pulled pushed h.box h.view
-          (λ f. e (ap state_after f));
-      mark = turned-mark m k c d t quiet pulled pushed h.box h.view;
-    }
-
--- ---- the graph
-
--- A due node that knows its ports was prepared: the graph runs on, and its actions wait.
-pub prepared_runs_on : {count : ℕ} {wires : List Wire} {cells : ℕ → CellPicture}
-    {edges : ℕ → EdgeState}
-    (r : Running count wires cells edges) → ((m : ℕ) → (cells m).view.actions ≡ [])
-    → (n : ℕ) → n < count → (cells n).mark.state ≡ node.Due
-    → ((p : Port) → IsPort (input_count wires n) (output_count wires n) p
-    → ViewKnows (cells n) p edges)
-    → (after : ℕ → CellPicture) → NodeTurns (cells n) (after n)
-    → ((m : ℕ) → m ≢ n → after m ≡ cells m) → Running count wires after edges
-prepared_runs_on {count} {wires} {cells} {edges} r quiet n lt due knows after t others =
-    let own : NodeHolds wires n (cells n) (r.pulled n) (r.pushed n) =
-    r.each n lt (busy-born count wires cells edges r n lt (λ e.
-    let f : node.Due ≡ node.Unborn = sym due ∙ e in cc)) in
-    moved-on r n after edges (λ _. false) others (with_pulled (cells n).view t.left (r.pulled n))
-    (with_pushed (cells n).view t.left (r.pushed n))
-    (turned-node wires n (cells n) (after n) t (quiet n) _ _ own)
-    (λ e p h.
-    let so_far = r.graph.graph.so_far in
-    let at = port-below count wires r.graph n e p h in
-    let here = own.numbers.at p at in
-    let known : port_flags (cells n).view p ≡ (edges e).flags = search (rules, knows p at) in
-    turned-end (input_count wires n) (output_count wires n) (cells n) (after n) t (quiet n) _ _
-    own.box own.view p (edges e) known
-    (end-quiet p (cells n) (edges e) (quiet n) (r.ends e n p h)))
-    (λ e m p h ne. r.ends e m p h) (λ e nf nt. refl)
+  turned-mark = grind (arith, left-so, was-lawful, has-finished, kept-noted)

@@ -1,22 +1,21 @@
--- What is true of the boxes when a run has ended, over plain data.
-use Rattle.exec_laws.specs.Prelude.{Answer, ArePortsOf, BoxPicture, FaultHolds, FaultIsDue, Flags, IsRunning, Input, Keeps, Lists, Loads, Output, Port, Prepared, ProducerKnows, Rests, Scheduled, Spec, Status, StuckNode, Table, Wire, WorkFault, input_count, is_ended, is_out_finished, kept_input, kept_output, output_count, wire_at}
+-- What is true of the boxes at one moment of a run, and when it has ended, over plain data.
+use Rattle.exec_laws.specs.Prelude.{Answer, ArePortsOf, BoxPicture, FaultHolds, FaultIsDue, Flags, IsRunning, Input, Keeps, Lists, Loads, Output, Port, Prepared, ProducerKnows, Rests, Scheduled, Spec, StandStill, Status, StuckNode, Table, Wire, WorkFault, input_count, is_ended, is_out_finished, kept_input, kept_output, output_count, wire_at}
 use Rattle.exec_laws.specs.Moves.{StaysBox, is_resting, is_waiting}
 use Rattle.exec_laws.specs.Runs.{CellPicture, HasEdge, HasFinished, IsBorn, MayRest, box_at, cell_at, kept_flags}
 use Rattle.std.specs.Prelude.{Bool, IsTrue, List, None, Option, Some, [], cond, false, is_some, length, map, not, suc, true, ℕ, ◌&&◌, ◌++◌, ◌<◌, ◌∷◌, ◌≡◌, ◌≢◌, ◌≤◌, ◌⊎◌}
 use Rattle.proc_api.specs.declared.status.Status.TheVariants as status
 use Rattle.proc_api.specs.declared.status.WorkFault.TheVariants as fault
 
--- ---- done
+-- ---- one moment of a run
 
--- An edge at the end: the chunks pulled are the first of those pushed. They are all of them unless
--- the consumer's node closed the port, and wherever a lawful consumer saw its input end, whether it
--- closed it afterwards or not. A lawful box keeps its own finished flag where its node set it, and
--- a peer's only where the peer's node set it.
-pub record EdgeDone (w : Wire) (from to : BoxPicture) (pulled pushed : List Table)
+-- An edge where no action waits: the chunks pulled are the first of those pushed, and all of them
+-- wherever a lawful consumer saw its input end, whether it closed it afterwards or not. A lawful
+-- box keeps its own finished flag where its node set it, and a peer's only where the peer's node
+-- set it.
+pub record EdgeSnapshot (w : Wire) (from to : BoxPicture) (pulled pushed : List Table)
     (port : Flags) : Type 0 where
   pub left : List Table
   pub first : pushed ≡ pulled ++ left
-  pub all : port.fin_in ≡ false → pulled ≡ pushed
   pub ended : IsTrue to.lawful → is_ended (kept_input to w.input) ≡ true → pulled ≡ pushed
   pub closed : IsTrue to.lawful → port.fin_in ≡ true → (kept_input to w.input).fin_in ≡ true
   pub finished : IsTrue from.lawful → port.fin_out ≡ true → (kept_output from w.out).fin_out ≡ true
@@ -24,30 +23,47 @@ pub record EdgeDone (w : Wire) (from to : BoxPicture) (pulled pushed : List Tabl
       → port.fin_out ≡ true
   pub sees_closed : IsTrue from.lawful → (kept_output from w.out).fin_in ≡ true → port.fin_in ≡ true
 
--- A lawful box at the end: if it has the ports of its spec and growth, it keeps what was pulled and
--- pushed. Its kept flags say that it has finished. Nothing was pulled where there is no input.
-pub record LawfulDone (inputs outputs : ℕ) (p : BoxPicture) (pulled pushed : Lists) : Type 0 where
+-- A lawful box: if it has the ports of its spec and growth, it keeps what was pulled and pushed.
+-- Nothing was pulled where there is no input.
+pub record BoxSnapshot (inputs outputs : ℕ) (p : BoxPicture) (pulled pushed : Lists) : Type 0 where
+  pub still : StandStill p.spec p.notes.view inputs outputs
   pub keeps : ArePortsOf p.spec p.growth inputs outputs → Keeps p pulled pushed
-  pub finished : HasFinished inputs outputs p
   pub nothing_past : (i : ℕ) → inputs ≤ i → pulled i ≡ []
   pub nothing_pushed_past : (o : ℕ) → outputs ≤ o → pushed o ≡ []
 
--- Every born node is over, and its box may still be called. There are lists of chunks for each
--- port, and the flags of each edge's port, as an ended run left them. The wires are those at the
--- end.
-pub record IsDone (wires : List Wire) (boxes : List BoxPicture) : Type 0 where
+-- What holds whenever no action waits: there are lists of chunks for each port, and flags of each
+-- edge's port. The wires are those of that moment.
+pub record Snapshot (wires : List Wire) (boxes : List BoxPicture) : Type 0 where
   pub pulled : ℕ → Lists
   pub pushed : ℕ → Lists
   pub ports : ℕ → Flags
-  pub over : (n : ℕ) → n < length boxes → IsBorn (box_at boxes n)
-      → (box_at boxes n).notes.answer ≡ Some (Prepared status.Finished)
-  pub running : (n : ℕ) → n < length boxes → IsBorn (box_at boxes n) → IsRunning (box_at boxes n)
   pub each : (n : ℕ) → n < length boxes → IsBorn (box_at boxes n) → IsTrue (box_at boxes n).lawful
-      → LawfulDone (input_count wires n) (output_count wires n) (box_at boxes n) (pulled n)
+      → BoxSnapshot (input_count wires n) (output_count wires n) (box_at boxes n) (pulled n)
       (pushed n)
   pub joined : (e : ℕ) → e < length wires → let w = wire_at wires e in
-      EdgeDone w (box_at boxes w.from) (box_at boxes w.to) (pulled w.to w.input)
+      EdgeSnapshot w (box_at boxes w.from) (box_at boxes w.to) (pulled w.to w.input)
       (pushed w.from w.out) (ports e)
+
+-- ---- done
+
+-- Every born node is over, and its box may still be called. The flags that a lawful box keeps say
+-- that it has finished. The chunks pulled are all that were pushed unless the consumer's node
+-- closed the port.
+pub record AllNodesOver (wires : List Wire) (boxes : List BoxPicture) (s : Snapshot wires boxes)
+    : Type 0 where
+  pub answers : (n : ℕ) → n < length boxes → IsBorn (box_at boxes n)
+      → (box_at boxes n).notes.answer ≡ Some (Prepared status.Finished)
+  pub running : (n : ℕ) → n < length boxes → IsBorn (box_at boxes n) → IsRunning (box_at boxes n)
+  pub finished : (n : ℕ) → n < length boxes → IsBorn (box_at boxes n)
+      → IsTrue (box_at boxes n).lawful
+      → HasFinished (input_count wires n) (output_count wires n) (box_at boxes n)
+  pub all : (e : ℕ) → e < length wires → let w = wire_at wires e in
+      (s.ports e).fin_in ≡ false → s.pulled w.to w.input ≡ s.pushed w.from w.out
+
+-- a run that has ended
+pub record IsDone (wires : List Wire) (boxes : List BoxPicture) : Type 0 where
+  pub snapshot : Snapshot wires boxes
+  pub over : AllNodesOver wires boxes snapshot
 
 -- ---- stuck
 
