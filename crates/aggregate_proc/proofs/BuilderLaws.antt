@@ -13,8 +13,7 @@ kinds calls = grind (arith, common_steps)
 
 pub types-are : (merges : Bool) (g : GroupSpec)
     → g.keys ++ call_types merges g.calls ≡ types_for merges g
-types-are false g = ap (λ l. g.keys ++ l) (arguments g.calls)
-types-are true g = ap (λ l. g.keys ++ l) (kinds g.calls)
+types-are merges g = grind (arith, arguments, kinds)
 
 pub no-keys : (types : List ColumnType) → [] ≡ map empty_column (key_foldings types 0)
 unfolding count_up

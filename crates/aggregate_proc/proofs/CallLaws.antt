@@ -1,6 +1,6 @@
 -- The calls of a partial aggregate and of a merge are what is folded, and their groups are those by
 -- the first values.
-use Rattle.aggregate_proc.proofs.Imports.{AggOp, AllByRecursion, AreCalls, Call, FitsTypes, GroupSpec, IsPermutation-grouped_by, IsPermutation-refl, Row, StateCall, Value, call_foldings, call_of, calls_for, calls_from, combine_of, combined, counted, distinct_rows, given_for, spec_group_types, grouped_by, groups_for, groups_or_default, key_of, length-append, length-map, length_permutation, rows_with, same_row, state_calls, types_for, value_at, value_of, values_at, whole_for, Text, UInt, length-FitsTypes, Bool, IsPermutation, List, [], ap, arith, false, length, map, refl, suc, sym, true, ℕ, ◌%◌, ◌++◌, ◌^◌, ◌∙◌, ◌∷◌, ◌≡◌}
+use Rattle.aggregate_proc.proofs.Imports.{AggOp, AllByRecursion, AreCalls, Call, FitsTypes, GroupSpec, IsPermutation-grouped_by, Row, StateCall, Value, call_foldings, call_of, calls_for, calls_from, combine_of, combined, counted, distinct_rows, given_for, spec_group_types, grouped_by, groups_for, groups_or_default, key_of, length-append, length-map, length_permutation, rows_with, same_row, state_calls, types_for, value_at, value_of, values_at, whole_for, Text, UInt, length-FitsTypes, Bool, IsPermutation, List, [], ap, arith, false, length, map, refl, suc, sym, true, ℕ, ◌%◌, ◌++◌, ◌^◌, ◌∙◌, ◌∷◌, ◌≡◌}
 use Rattle.aggregate_proc.proofs.ListLaws.{filter-same, map-same, map_of_places_is_take}
 use Rattle.query_model.specs.declared.query.AggOp.TheVariants as agg
 
@@ -65,13 +65,8 @@ groups-by true g rows h = grouped-same (FitsTypes (spec_group_types g)) _ _
 
 default-permutation : (lone : Bool) (d : Row) (xs ys : List Row) → IsPermutation xs ys
     → IsPermutation (groups_or_default lone d xs) (groups_or_default lone d ys)
-default-permutation false d xs ys h = h
-default-permutation true d [] [] h = IsPermutation-refl (d ∷ [])
-default-permutation true d [] (y ∷ ys) h = grind (arith, length_permutation)
-default-permutation true d (x ∷ xs) [] h = grind (arith, length_permutation)
-default-permutation true d (x ∷ xs) (y ∷ ys) h = h
+default-permutation lone d xs ys h = grind (arith, length_permutation)
 
 pub given-whole : (merges : Bool) (g : GroupSpec) (rows order : List Row) → IsPermutation rows order
     → IsPermutation (whole_for merges g rows) (given_for merges g (groups_for merges g order))
-given-whole false g rows order h = IsPermutation-grouped_by _ _ rows order h
-given-whole true g rows order h = grind (arith, default-permutation, IsPermutation-grouped_by)
+given-whole merges g rows order h = grind (arith, IsPermutation-grouped_by, default-permutation)

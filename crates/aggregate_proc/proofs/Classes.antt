@@ -27,14 +27,7 @@ filter-some p (x ∷ xs) h = go (p x) refl (filter-some p xs)
           is = ap (λ b. cond b (x ∷ filter p xs) (filter p xs)) e;
           passes = e;
         }
-    go false e more =
-        let m = more (sym (ap (λ b. b || list_any p xs) e) ∙ h) in
-        record {
-          first = m.first;
-          rest = m.rest;
-          is = ap (λ b. cond b (x ∷ filter p xs) (filter p xs)) e ∙ m.is;
-          passes = m.passes;
-        }
+    go false e more = grind arith
 
 pub list_any-map : {A B : Type 0} (p : B → Bool) (f : A → B) (xs : List A)
     → list_any p (map f xs) ≡ list_any (λ x. p (f x)) xs

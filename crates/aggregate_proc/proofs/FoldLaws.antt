@@ -1,6 +1,5 @@
 -- One value more is folded into what was made of those before it.
-use Rattle.aggregate_proc.proofs.Imports.{◌≡◌, List, [], ◌∷◌, ◌++◌, refl, sym, ◌∙◌, Combine, Fold, Value, added, chosen, combined, combined-merge, counted, counts_added, earlier, folded, greatest, least, merge_of, next_folded}
-use Rattle.aggregate_proc.specs.declared.fold.Fold.TheVariants as fold
+use Rattle.aggregate_proc.proofs.Imports.{arith, ◌≡◌, List, [], ◌∷◌, ◌++◌, refl, sym, Combine, Fold, Value, chosen, combined, combined-merge, earlier, folded, merge_of, next_folded}
 
 pub earlier-first : (v : Value) (vs : List Value) → chosen earlier (v ∷ vs) ≡ v
 unfolding chosen
@@ -15,9 +14,4 @@ merged op v vs w = sym (combined-merge op ((v ∷ vs) ∷ (w ∷ []) ∷ []))
 
 pub folded-next : (f : Fold) (v : Value) (vs : List Value) (w : Value)
     → folded f ((v ∷ vs) ++ w ∷ []) ≡ next_folded f (folded f (v ∷ vs)) w
-folded-next fold.First v vs w = earlier-first v (vs ++ w ∷ []) ∙ sym (earlier-first v vs)
-folded-next fold.Count v vs w = merged counted v vs w
-folded-next fold.Add v vs w = merged added v vs w
-folded-next fold.AddCounts v vs w = merged counts_added v vs w
-folded-next fold.Least v vs w = merged least v vs w
-folded-next fold.Greatest v vs w = merged greatest v vs w
+folded-next f v vs w = grind (arith, earlier-first, merged)

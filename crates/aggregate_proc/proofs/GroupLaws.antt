@@ -62,10 +62,8 @@ calls-made : (foldings : List Folding) (calls : List Call) → AreCalls foldings
     → (rows : List Row)
     → map (λ (f : Folding). folded f.op (map (argument_at f) rows)) foldings
     ≡ map (λ (call : Call). combined call.op (map call.arg rows)) calls
-calls-made [] [] h rows = refl
-calls-made [] (call ∷ calls) h rows = absurd h
-calls-made (f ∷ foldings) [] h rows = absurd h
 calls-made (f ∷ foldings) (call ∷ calls) h rows = grind (arith, calls-made foldings calls h.1 rows)
+calls-made foldings calls h rows = grind arith
 
 -- each key is found among them
 keys-found : (n : ℕ) (rows : List Row) (k : Row) → list_any (same_row k) (group_keys n rows) ≡ true
@@ -234,9 +232,7 @@ columns-long t h =
 
 pub rows-counted : (t : GroupTableView) → IsGroupTable t → length (group_table_rows t)
     ≡ length t.codes
-rows-counted t h =
-    length-rows_of (length t.codes) (map (λ (c : FoldColumn). c.values) t.columns)
-    (columns-long t h)
+rows-counted t h = search (arith, length-rows_of, columns-long)
 
 -- a table without rows
 pub empty-table : (t : GroupTableView) → t.keys ≤ length t.types

@@ -1,7 +1,6 @@
 -- A grouping keeps what its kind says of the chunks that it worked.
-use Rattle.aggregate_proc.proofs.Imports.{All, AllByRecursion, AreGrouped, AreInputsOver, ArePortsOf, Begins, ColumnType, FitsGroups, FitsInput, FitsTypes, GroupSpec, GroupsMore, HasNotedEnd, IsAtMost, IsNextOfGroups, IsPermutation-append_left, IsPermutation-same, IsPermutation-trans, IsGroupTableFor, Lists, Makes, MakesTypes, Means, NotesGroupsEnd, Offer, OfferComes, Offers, OwnState, Picture, Reading, Row, Table, GroupTableView, Takes, all-more, append-nil, calls_for, chunk_rows, distinct, drops-misfit, eqb-true, gathering_own, giving_own, idle_own, spec_group_types, grouped_by, groups_for, in_count, key_of, fold_types, length-append, length-drop, length-take, most_rows, no-rows, no_lists, open_for, recursion_from_All, rows-here, group_table_rows, aggregate_spec, take-append-drop, types_for, unread, whole_for, with_chunk, worked_rows, every-append, EndIsNoted, Spec, Bool, IsPermutation, List, None, Some, [], ap, append_assoc, arith, drop, drop-drop, false, inl, inr, length, max, refl, subst, sym, take, true, ℕ, ◌++◌, ◌+◌, ◌<◌, ◌∙◌, ◌≡◌, ◌≤◌, ◌⊎◌}
+use Rattle.aggregate_proc.proofs.Imports.{All, AllByRecursion, AreGrouped, AreInputsOver, ArePortsOf, Begins, ColumnType, FitsGroups, FitsInput, FitsTypes, GroupSpec, GroupsMore, HasNotedEnd, IsAtMost, IsNextOfGroups, IsPermutation-append_left, IsPermutation-same, IsPermutation-trans, IsGroupTableFor, Lists, Makes, MakesTypes, Means, NotesGroupsEnd, Offer, OfferComes, Offers, OwnState, Picture, Reading, Row, Table, GroupTableView, Takes, all-more, append-nil, calls_for, chunk_rows, distinct, drops-misfit, eqb-true, gathering_own, giving_own, idle_own, spec_group_types, grouped_by, groups_for, in_count, key_of, fold_types, length-append, length-drop, length-take, most_rows, no-rows, open_for, recursion_from_All, rows-here, group_table_rows, aggregate_spec, take-append-drop, types_for, whole_for, with_chunk, worked_rows, every-append, EndIsNoted, Spec, Bool, IsPermutation, List, None, Some, [], ap, append_assoc, arith, drop, drop-drop, false, inl, length, max, refl, subst, sym, take, true, ℕ, ◌++◌, ◌+◌, ◌<◌, ◌∙◌, ◌≡◌, ◌≤◌, ◌⊎◌}
 use Rattle.aggregate_proc.proofs.CallLaws.{calls-are, given-whole, groups-by}
-use Rattle.proc_shell.specs.declared.kernel.Offer.TheVariants as offer
 
 -- ---- by whether partial groups are merged
 
@@ -44,20 +43,14 @@ worked-more : (merges : Bool) (i : ℕ) (t : Table) (worked : Lists) → open_fo
 worked-more false i t worked w lt = grind (arith, eqb-true, IsPermutation-same, rows-here)
 worked-more true i t worked w lt = all-more i t worked lt
 
-none-worked : (merges : Bool) → worked_rows merges no_lists ≡ []
-none-worked false = refl
-none-worked true = no-rows 32
-
 none-grouped : (merges : Bool) (g : GroupSpec) → groups_for merges g [] ≡ []
 unfolding distinct
-none-grouped false g = refl
-none-grouped true g = refl
+none-grouped merges g = grind arith
 
 pub one-input : (merges : Bool) (g : GroupSpec) (inputs outputs : ℕ)
     → ArePortsOf (Some (aggregate_spec merges g)) None inputs outputs → (inputs ≡ 1)
     ⊎ (merges ≡ true)
-one-input false g inputs outputs h = inl h.0
-one-input true g inputs outputs h = inr refl
+one-input merges g inputs outputs h = grind arith
 
 abbrev pub table_own : GroupTableView → OwnState
 table_own t = gathering_own (record { types = fold_types t; rows = group_table_rows t })
@@ -70,40 +63,11 @@ module _ (merges : Bool) (g : GroupSpec) where
   is = group-kind merges g
 
   pub begins : (t : GroupTableView) → group_table_rows t ≡ [] → Begins s s (table_own t)
-  begins t none = record {
-    spec = refl;
-    nothing = λ files. is.into (unread files) (table_own t)
-        no_lists no_lists [] (record {
-          gathering = λ e. record {
-            nothing_made = refl;
-            nothing_unmade = refl;
-            order = [];
-            same = IsPermutation-same _ _ (none-worked merges);
-            fit = tt;
-            groups_are = append-nil (group_table_rows t) ∙ none ∙ sym (none-grouped merges g);
-          };
-          grouped = λ e. absurd (cc);
-        });
-    unended = λ i n. absurd (let e = is.noting (table_own t) i n in cc);
-  }
+  begins t none = grind (arith, is, IsPermutation-same, append-nil, none-grouped, no-rows)
 
   -- where no chunk fits it has no groups
   pub begins-dropping : Begins s s idle_own
-  begins-dropping = record {
-    spec = refl;
-    nothing = λ files. is.into (unread files) idle_own no_lists no_lists [] (record {
-      gathering = λ e. record {
-        nothing_made = refl;
-        nothing_unmade = refl;
-        order = [];
-        same = IsPermutation-same _ _ (none-worked merges);
-        fit = tt;
-        groups_are = sym (none-grouped merges g);
-      };
-      grouped = λ e. absurd (cc);
-    });
-    unended = λ i n. absurd (let e = is.noting idle_own i n in cc);
-  }
+  begins-dropping = grind (arith, is, IsPermutation-same, none-grouped, no-rows)
 
   -- ---- a chunk more
 
@@ -155,8 +119,7 @@ module _ (merges : Bool) (g : GroupSpec) where
   goes-on : (old new : OwnState) → NotesGroupsEnd merges g old new
       → (worked : Lists) (made : List Row)
       → (b : Bool) → old.ended ≡ b → Made merges g old worked made → Made merges g new worked made
-  goes-on old new n worked made true e h = grind arith
-  goes-on old new n worked made false e h = grind (arith, given-whole)
+  goes-on old new n worked made b e h = grind (arith, given-whole)
 
   pub offers : (wants : ℕ → Bool) (v : Picture) (old new : OwnState) (o : Offer) → AreInputsOver v
       → NotesGroupsEnd merges g old new → OfferComes wants o s v new → Offers wants s v old new o
@@ -165,31 +128,15 @@ module _ (merges : Bool) (g : GroupSpec) where
   pub comes : (v : Picture) (own : OwnState) (o : Offer) → IsNextOfGroups own o
       → (in_count v ≡ 1) ⊎ (merges ≡ true) → (AreInputsOver v → own.ended ≡ true)
       → OfferComes (open_for merges) o s v own
-  comes v own offer.Rows n one ended = n
-  comes v own offer.Wants n one ended = grind arith
-  comes v own _ n one ended = absurd n
+  comes v own h n one ended = grind arith
 
   -- ---- rows are made
 
   makes : (old rest : List Row) (c : Table) → old ≡ c.rows ++ rest → 0 < length c.rows
       → length c.rows ≤ max g.rows 1 → c.types ≡ spec_group_types g
       → Makes s (giving_own old) (giving_own rest) (Some c)
-  makes old rest c e some most types = record {
-    means = λ x worked outs h. is.into x (giving_own rest) worked outs c.rows (record {
-      gathering = λ f. absurd (cc);
-      grouped = λ f. subst (IsPermutation (whole_for merges g (worked_rows merges worked)))
-          (ap (λ l. (chunk_rows (outs 0) ++ []) ++ l) e
-          ∙ ap (λ l. l ++ (c.rows ++ rest)) (append-nil (chunk_rows (outs 0)))
-          ∙ sym (append_assoc (chunk_rows (outs 0)) c.rows rest))
-          ((is.from x (giving_own old) worked outs [] h).grouped refl);
-    });
-    types = λ ins. is.types ins c.types types;
-    sizes = is.size (length c.rows) most;
-    progress = inl some;
-    nothing = λ n. absurd (let l = ap length (sym e ∙ n) in
-        let m = length-append c.rows rest in omega (arith, l, m, some));
-    ends = λ i n. is.notes (giving_own old) i refl;
-  }
+  makes old rest c e some most types =
+      grind (arith, is, append-nil, append_assoc, length-append c.rows rest)
 
   -- so many rows more are made
   pub makes-part : (rows : List Row) (next count : ℕ) (c : Table)

@@ -1,13 +1,11 @@
 -- What is true of each element of a list, of its filtered and its distinct elements; the rows of
 -- columns.
-use Rattle.aggregate_proc.proofs.Imports.{◌≡◌, ◌≤◌, ℕ, zero, suc, take, get_or, Bool, true, false, cond, List, [], ◌∷◌, length, map, filter, refl, ap₂, arith, AllByRecursion, count_up, distinct, map-append, take-suc}
+use Rattle.aggregate_proc.proofs.Imports.{◌≡◌, ◌≤◌, ℕ, zero, suc, take, get_or, Bool, List, [], ◌∷◌, length, map, filter, refl, ap₂, arith, AllByRecursion, count_up, distinct, map-append, take-suc}
 
 pub all-filter : {A : Type 0} (P : A → Type 0) (p : A → Bool) (xs : List A) → AllByRecursion P xs
     → AllByRecursion P (filter p xs)
 all-filter P p [] h = tt
-all-filter P p (x ∷ xs) h =
-    elim (p x) as (λ b. AllByRecursion P (cond b (x ∷ filter p xs) (filter p xs)))
-    [ true ↦ (h.0, all-filter P p xs h.1) | false ↦ all-filter P p xs h.1 ]
+all-filter P p (x ∷ xs) h = grind (arith, all-filter P p xs h.1)
 
 pub all-distinct : {A : Type 0} (P : A → Type 0) (R : A → A → Bool) (xs : List A)
     → AllByRecursion P xs → AllByRecursion P (distinct R xs)

@@ -1,5 +1,5 @@
 -- What the code makes of two numbers is what is folded of them.
-use Rattle.aggregate_proc.proofs.Imports.{◌≡◌, ◌≢◌, ℕ, ◌+◌, ◌%◌, ◌^◌, ◌<◌, true, List, [], ◌∷◌, refl, ap, arith, ℤ, pos, ◌+ℤ◌, SFits, to_z, of_z, w64, Fold, Value, can_fold, chosen, combined, folded, int_max, int_min, int_wrap, int_wrap_fits, ints, next_folded, to_z-of_z, wrapped, wrapping_add_onto}
+use Rattle.aggregate_proc.proofs.Imports.{◌≡◌, ◌≢◌, ℕ, ◌+◌, ◌%◌, ◌^◌, ◌<◌, true, List, [], ◌∷◌, refl, arith, ℤ, pos, ◌+ℤ◌, SFits, to_z, of_z, w64, Fold, Value, can_fold, chosen, combined, folded, int_max, int_min, int_wrap, int_wrap_fits, ints, next_folded, to_z-of_z, wrapped, wrapping_add_onto}
 use Rattle.chunk_data.specs.declared.typed_value.PlainType.TheVariants as plain
 use Rattle.chunk_data.specs.declared.typed_value.Value.TheVariants as value
 use Rattle.aggregate_proc.specs.declared.fold.Fold.TheVariants as fold
@@ -33,26 +33,17 @@ greatest-int a b m f g e = grind arith
 pub starts-int : (f : Fold) (z : ℤ) → can_fold f plain.Int64 ≡ true → SFits w64 z
     → folded f (value.Int z ∷ []) ≡ value.Int z
 unfolding combined chosen wrapped
-starts-int fold.Count z can f = absurd cc
-starts-int fold.AddCounts z can f = absurd cc
-starts-int fold.Add z can f = ap value.Int (alone z f)
-starts-int _ z can f = refl
+starts-int h z can f = grind (arith, alone)
 
 pub starts-uint : (f : Fold) (n : ℕ) → f ≢ fold.Count → n < 2 ^ 64
     → folded f (value.UInt n ∷ []) ≡ value.UInt n
 unfolding combined chosen wrapped
-starts-uint fold.Count n ne lt = absurd (ne refl)
-starts-uint fold.Add n ne lt = let e : (n + 0) % 2 ^ 64 ≡ n = omega (arith, lt) in ap value.UInt e
-starts-uint fold.AddCounts n ne lt = grind arith
-starts-uint _ n ne lt = refl
+starts-uint h n ne lt = grind arith
 
 pub starts-text : (f : Fold) (text : List ℕ) → can_fold f plain.Text ≡ true
     → folded f (value.Text text ∷ []) ≡ value.Text text
 unfolding combined chosen
-starts-text fold.Count text can = absurd cc
-starts-text fold.Add text can = absurd cc
-starts-text fold.AddCounts text can = absurd cc
-starts-text _ text can = refl
+starts-text h text can = grind arith
 
 pub counted-first : (v : Value) → value.UInt 1 ≡ folded fold.Count (v ∷ [])
 unfolding combined

@@ -1,21 +1,19 @@
 -- A loop that puts each value to the group at its place.
-use Rattle.aggregate_proc.proofs.Imports.{◌≡◌, ℕ, zero, suc, ◌+◌, ◌<◌, ◌≤◌, List, [], ◌∷◌, ◌++◌, length, map, set, get_or, drop, sym, ap, ◌∙◌, arith, Fold, Value, at_drop_more, folded, get_or-map, length-map, next_folded, put_folded, put_all, set-get_or}
+use Rattle.aggregate_proc.proofs.Imports.{◌≡◌, ℕ, suc, ◌+◌, ◌<◌, ◌≤◌, List, [], ◌∷◌, ◌++◌, length, map, set, get_or, drop, ap, arith, Fold, Value, at_drop_more, folded, get_or-map, length-map, next_folded, put_folded, put_all, set-get_or}
 
 -- y, which stands at the place, becomes x
 put-set : {A : Type 0} (f : Fold) (h : A → Value) (xs : List A) (p : ℕ) (v : Value) (x y : A)
     → p < length xs → y ≡ get_or xs p y → h x ≡ next_folded f (h y) v
     → map h (set xs p x) ≡ put_folded f (map h xs) p v
-put-set f h [] p v x y lt at e = absurd (omega (arith, lt))
-put-set f h (z ∷ xs) zero v x y lt at e = grind arith
 put-set f h (z ∷ xs) (suc p) v x y lt at e =
     ap (λ l. h z ∷ l) (put-set f h xs p v x y (omega (arith, lt)) at e)
+put-set f h xs p v x y lt at e = grind arith
 
 put-push : {A : Type 0} (f : Fold) (h : A → Value) (xs : List A) (p : ℕ) (v : Value) (x : A)
     → length xs ≤ p → h x ≡ folded f (v ∷ [])
     → map h (xs ++ x ∷ []) ≡ put_folded f (map h xs) p v
-put-push f h [] p v x le e = ap (λ w. w ∷ []) e
-put-push f h (y ∷ xs) zero v x le e = absurd (omega (arith, le))
 put-push f h (y ∷ xs) (suc p) v x le e = grind (arith, put-push f h xs p v x (omega (arith, le)) e)
+put-push f h xs p v x le e = grind arith
 
 -- what is left to do
 abbrev pub left_to_put : Fold → List Value → List ℕ → List Value → ℕ → List Value
@@ -61,9 +59,7 @@ module _ {A : Type 0} (f : Fold) (h : A → Value) (xs : List A) (ps : List ℕ)
       → y ≡ get_or xs (get_or ps i 0) y → h y ≡ next_folded f (h y) (h (get_or ns i d))
       → left_to_put f (map h new) ps (map h ns) (i + 1)
       ≡ left_to_put f (map h xs) ps (map h ns) i
-  keep-next new y e within here is =
-      let same = ap (set xs (get_or ps i 0)) here ∙ set-get_or xs (get_or ps i 0) y in
-      set-next new y y (e ∙ sym same) within here is
+  keep-next new y e within here is = grind (arith, set-next, set-get_or xs (get_or ps i 0) y)
 
   pub push-next : (new : List A) (x : A) → new ≡ xs ++ x ∷ [] → length xs ≤ get_or ps i 0
       → h x ≡ folded f (h (get_or ns i d) ∷ [])

@@ -1,5 +1,5 @@
 -- The growth of a list, made path by path, and the inputs that it gives.
-use Rattle.csv_procs.proofs.Imports.{Edge, GrowNode, Growth, List, PartSpec, [], append-nil, append_assoc, arith, common_steps, count_by, drop, drop_all, drop_more, get_or, growth_form, is_me, length, list_growth, listed_edge, listed_edges, listed_part, listed_parts, map, map-append, refl, spec_form, sym, ℕ, ◌++◌, ◌+◌, ◌<◌, ◌∙◌, ◌∷◌, ◌≡◌}
+use Rattle.csv_procs.proofs.Imports.{Edge, GrowNode, List, PartSpec, [], arith, common_steps, count_by, drop, is_me, length, listed_edges, listed_parts, map, refl, spec_form, ℕ, ◌++◌, ◌+◌, ◌<◌, ◌∙◌, ◌∷◌, ◌≡◌}
 use Rattle.query_model.specs.declared.processor_spec.Spec.TheVariants as spec
 
 pub edges-count : (k : ℕ) (paths : List (List ℕ))
@@ -15,34 +15,3 @@ pub record GrowsUpTo (list : PartSpec) (paths : List (List ℕ)) (i : ℕ) (node
   pub ranks : map (λ (n : GrowNode). n.rank) nodes ++ map (λ path. 0) (drop i paths)
       ≡ map (λ path. 0) paths
   pub edges_are : edges ++ listed_edges i (drop i paths) ≡ listed_edges 0 paths
-
-pub grows-first : (list : PartSpec) (paths : List (List ℕ)) → GrowsUpTo list paths 0 [] []
-grows-first list paths = record { specs = refl; ranks = refl; edges_are = refl }
-
-pub grows-more : (list : PartSpec) (paths : List (List ℕ)) (i : ℕ) (d : List ℕ)
-    (nodes : List GrowNode) (node : GrowNode) (edges : List Edge) (edge : Edge) → i < length paths
-    → node.spec ≡ spec.Csv (listed_part list i (get_or paths i d)) → node.rank ≡ 0
-    → edge ≡ listed_edge i → GrowsUpTo list paths i nodes edges
-    → GrowsUpTo list paths (i + 1) (nodes ++ node ∷ []) (edges ++ edge ∷ [])
-grows-more list paths i d nodes node edges edge lt spec' rank edge' g =
-    let next = drop_more paths i d lt in
-    record {
-      specs = rw (
-        map-append (λ (n : GrowNode). spec_form n.spec) nodes (node ∷ []),
-        spec',
-        append_assoc,
-      ) (rw next at g.specs);
-      ranks = rw (map-append (λ (n : GrowNode). n.rank) nodes (node ∷ []), rank, append_assoc)
-          (rw next at g.ranks);
-      edges_are = rw (edge', append_assoc) (rw next at g.edges_are);
-    }
-
-pub grows-all : (list : PartSpec) (paths : List (List ℕ)) (g : Growth)
-    → GrowsUpTo list paths (length paths) g.nodes g.edges → growth_form g ≡ list_growth list paths
-grows-all list paths g x =
-    let none = drop_all (length paths) paths (omega arith) in
-    λ i. record {
-      specs = (sym (append-nil _) ∙ (rw none at x.specs)) i;
-      ranks = (sym (append-nil _) ∙ (rw none at x.ranks)) i;
-      edges = (sym (append-nil _) ∙ (rw none at x.edges_are)) i;
-    }

@@ -4,7 +4,7 @@ use Rattle.csv_procs.proofs.Imports.{IfSome, IsSome, drop-take, take-append-drop
 use Rattle.outside_io.specs.declared.entries.FileEntry.{FileEntry}
 use Rattle.outside_io.specs.Told.{files_of, told_bytes, moved_by, GivesNext, StandsAtEnd}
 use Rattle.query_model.specs.Database.{file_bytes as pair_bytes}
-use Rattle.csv_procs.specs.FileFetch.{HoldsFront, IsFile, IsToldTooLong}
+use Rattle.csv_procs.specs.FileFetch.{HoldsFront, IsFile}
 
 -- a fact of what is told, if anything is
 if_told : {X : Type 0} (o : Option X) {P : X → Type 0} → ((x : X) → o ≡ Some x → P x) → IfSome o P
@@ -12,11 +12,6 @@ if_told o h = grind arith
 
 some_such : {X : Type 0} (o : Option X) {Q : Type 0} → IsSome o → ((x : X) → o ≡ Some x → Q) → Q
 some_such o s h = grind arith
-
--- nothing is held of a file that was just opened
-pub HoldsFront-start : (files : Option (List FileEntry)) (position : Option (List ℕ × ℕ))
-    (path : List ℕ) → position ≡ Some (path, 0) → HoldsFront files position path []
-HoldsFront-start files position path h = grind (arith, if_told)
 
 take_both : (a b : ℕ) (xs : List ℕ) → take (a + b) xs ≡ take a xs ++ take b (drop a xs)
 take_both a b xs = sym (take-append-drop a (take (a + b) xs))
@@ -49,13 +44,6 @@ HoldsFront-whole {files = files} {path = path} {held = held} h end found =
     let front = rw (there, is) at h.front in
     let whole = rw (h.at, there, is) at end in
     is ∙ ap Some (sym (front.1 ∙ take_all (length held) content (omega (arith, whole))))))
-
--- a file of which more was read than the limit is long
-pub HoldsFront-beyond : {files : Option (List FileEntry)} {old : Option (List ℕ × ℕ)}
-    {path held : List ℕ} {limit : ℕ} → (block : List ℕ) → HoldsFront files old path held
-    → GivesNext files old (length block) block → limit < length held + length block
-    → IfSome files (λ all. IsSome (told_bytes all path)) → IsToldTooLong files path limit
-HoldsFront-beyond block h next beyond found = grind (arith, if_told, some_such)
 
 -- the reader's told bytes are those of the files as pairs
 pub told_as_pairs : (told : List FileEntry) (path : List ℕ)

@@ -1,5 +1,5 @@
 -- What the kernel of a source offers, works and makes, be it of a part or of a list.
-use Rattle.csv_procs.proofs.Imports.{ArePortsOf, AreResized, Begins, Bool, ColumnType, Fetching, FileState, GivesLeft, HasFitLeft, IfSome, IsKernelOf, IsNextOfList, IsNextOfSource, IsSome, IsSourceKind, IsSpecOf, IsValid, List, ListedPaths, Makes, None, Offer, OfferComes, Offers, Option, PartSpec, Paths, Picture, Reads, Row, Rows, RowsLeft, Shut, Some, Spec, Table, Takes, TakesRows, [], ap, append-nil, append_assoc, arith, at_end, bad_place, chunk_rows, cond, csv_kind, csv_spec, eq-eqb, eqb-true, false, good_rows, grown_inputs, growth_in, idle_own, in_count, inl, inputs_in, inr, kind_of, leaves-same, left_rows, length, length-append, list_growth, lists_in, makes-nothing, max, nil_from_length, open_in, out_count, refl, resized-nothing, resized-takes, row_then, rows_if_some, sourcing, spelled_row, stage_in, subst, sym, true, types_or, with_chunk, ℕ, ◌++◌, ◌+◌, ◌<◌, ◌∙◌, ◌∷◌, ◌≡◌, ◌⊎◌}
+use Rattle.csv_procs.proofs.Imports.{ArePortsOf, AreResized, Begins, Bool, ColumnType, Fetching, FileState, GivesLeft, IfSome, IsNextOfList, IsNextOfSource, IsSome, IsSourceKind, IsSpecOf, IsValid, List, ListedPaths, Makes, None, Offer, OfferComes, Offers, Option, PartSpec, Paths, Picture, Reads, Row, Rows, RowsLeft, Shut, Some, Spec, Table, Takes, TakesRows, [], ap, append-nil, append_assoc, arith, at_end, bad_place, chunk_rows, cond, csv_kind, csv_spec, eq-eqb, eqb-true, false, good_rows, grown_inputs, growth_in, in_count, inl, inputs_in, inr, kind_of, leaves-same, left_rows, length, length-append, list_growth, lists_in, makes-nothing, max, nil_from_length, open_in, out_count, refl, resized-nothing, resized-takes, row_then, sourcing, spelled_row, stage_in, subst, sym, true, types_or, with_chunk, ℕ, ◌++◌, ◌+◌, ◌<◌, ◌∙◌, ◌∷◌, ◌≡◌, ◌⊎◌}
 use Rattle.query_model.specs.declared.processor_spec.Spec.TheVariants as spec
 use Rattle.proc_shell.specs.declared.kernel.Offer.TheVariants as offer
 use Rattle.csv_procs.proofs.GrowthLaws.{edges-count}
@@ -201,38 +201,6 @@ module _ (list : PartSpec) (l : ListedPaths) where
     sizes = g.within;
     ends = λ i n. n;
   }
-
-  -- the first rows that are left are made
-  pub makes-left : (l' : ListedPaths) (o : Option Table) → HasFitLeft list.types (Paths l)
-      → GivesLeft (max list.rows 1) l.left l'.left o
-      → Makes (spec.List list) (sourcing true list (Paths l)).own
-      (sourcing true list (Paths l')).own o
-  makes-left l' o fit g = record {
-    means = λ x worked outs h.
-        record { knows = h.knows; resized = subst (AreResized worked outs) g.rows h.resized };
-    types = λ ins. of-types list.types o (g.types list.types fit).0;
-    sizes = g.within;
-    progress = g.some;
-    nothing = λ none.
-        let given : o ≡ None = g.nothing none in (
-          ap (λ rows. record idle_own { unmade = rows })
-              (sym (g.rows ∙ ap (λ z. rows_if_some z ++ left_rows l') given) ∙ refl),
-          given,
-        );
-    ends = λ i n. n;
-  }
-
--- another chunk is left, and nothing else is changed
-pub same-list : (part : PartSpec) (l l' : ListedPaths) → l'.paths ≡ l.paths
-    → l'.bad_line ≡ l.bad_line → l'.grown ≡ l.grown
-    → IsKernelOf (sourcing true part (Paths l)) (sourcing true part (Paths l'))
-same-list part l l' paths bad grown = λ i. record (sourcing true part (Paths l')) {
-  stage = record (stage_in part (Paths l')) {
-    paths = paths i;
-    bad_line = bad i;
-    grown = grown i;
-  };
-}
 
 -- ---- offer
 

@@ -63,13 +63,6 @@ pub record ReadsOn (text line : List ℕ) (i number : ℕ) (paths : List (List �
   pub are : AreOf (list_bad_line text) (list_paths text) number paths
       (lines_from line (drop i text))
 
-pub reads-first : (text : List ℕ) → ReadsOn text [] 0 1 []
-reads-first text = record {
-  numbered = omega arith;
-  few = omega arith;
-  are = record { bad_line_is = refl; paths_are = refl };
-}
-
 -- the next byte is none that ends a line, or ends one that is taken, or that is bad
 pub reads-byte : (text line : List ℕ) (i number d : ℕ) (paths : List (List ℕ)) → i < length text
     → get_or text i d ≢ 10 → ReadsOn text line i number paths

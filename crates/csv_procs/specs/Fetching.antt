@@ -46,7 +46,7 @@ SpecMatchesReader told position (spec.Csv part) g given pendings =
     MatchesReader told position false part g given pendings
 SpecMatchesReader told position (spec.List list) g given pendings =
     MatchesReader told position true list g given pendings
-SpecMatchesReader told position s g given pendings = Unit {0}
+SpecMatchesReader told position s g given pendings = ⊥
 
 -- as long as no fault is kept
 abbrev pub PartMatchesReader : ToldFiles → Position → Option LoadedShell → Type 0

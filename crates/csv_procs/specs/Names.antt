@@ -8,7 +8,7 @@ pub use Rattle.csv_procs.specs.Prelude.{CountIncreased, FileState, PartSpec, bad
 pub use Rattle.csv_procs.specs.SourceShells.{source_kinds, source_shelled, source_uses}
 pub use Rattle.outside_io.specs.Readers.{BlockGiven, IsAfter, ReaderState}
 pub use Rattle.outside_io.specs.Told.{files_of}
-pub use Rattle.proc_shell.specs.Names.{IsUnloadedProcessor, MaySchedule, ShellNotes, codes, option_map, shell_state}
+pub use Rattle.proc_shell.specs.Names.{IsUnloadedProcessor, MaySchedule, ShellNotes, codes, kind_of, option_map, shell_state}
 pub use Rattle.query_model.specs.ListFiles.{is_path, list_bad_line, list_paths, without_cr}
 pub use Rattle.std.specs.List.{list_all}
 pub use Rattle.std.specs.Prelude.{Bool, IfOk, IfSome, IsSome, IsTrue, None, OnErr, OnOk, Some, [], false, length, max, not, true, ℕ}

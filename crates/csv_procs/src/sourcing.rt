@@ -1,5 +1,5 @@
 ghost use Rattle.std.specs.Prelude.{◌<◌, ◌^◌, ◌↔◌, ◌≡◌};
-ghost use Rattle.csv_procs.specs.Names.{Bool, HasFitLeft, IfSome, IsNextOfSource, IsSpecOf, IsTrue, csv_kind, inputs_in, length, lists_in, max, open_in};
+ghost use Rattle.csv_procs.specs.Names.{Bool, HasFitLeft, IsNextOfSource, IsSpecOf, IsTrue, csv_kind, inputs_in, kind_of, length, lists_in, max, open_in};
 
 use crate::file_fetch::BLOCK;
 use crate::file_state::FileState;
@@ -70,14 +70,16 @@ fn source_kind(lists: bool) -> Kind
     if lists { Kind::List } else { Kind::Csv }
 }
 
-// The part or list of a source's spec.
-fn part_of(spec: Spec) -> Option<PartSpec>
-    ensures { IfSome result (IsSpecOf spec) }
+// The part or list of a source's spec, which is of its kind.
+fn part_of<S: Sourced>(spec: Spec) -> PartSpec
+    requires { kind_of spec ≡ csv_kind S.lists }
+    ensures { IsSpecOf spec result }
 {
     match spec {
-        Spec::Csv(part) => Some(part),
-        Spec::List(list) => Some(list),
-        _ => None,
+        Spec::Csv(part) => part,
+        Spec::List(list) => list,
+        // The shell hands it no other kind's.
+        _ => unreachable!(),
     }
 }
 
@@ -143,23 +145,18 @@ impl<S: Sourced> Kernel for Sourcing<S> {
 
     // A column's number has 32 bits.
     fn begin(alloc: Global, spec: Spec) -> Result<Sourcing<S>, Memory> {
-        match part_of(spec) {
-            Some(part) => {
-                if part.types.len() as u64 > u32::MAX as u64 {
-                    return Err(Memory);
-                }
-                match Box::new(alloc, [0; BLOCK]) {
-                    Ok(buffer) => Ok(Sourcing {
-                        part,
-                        state: FileState::Shut,
-                        buffer,
-                        source: PhantomData,
-                    }),
-                    Err(_) => Err(Memory),
-                }
-            }
-            // The shell hands it no other kind's.
-            None => Err(Memory),
+        let part = part_of::<S>(spec);
+        if part.types.len() as u64 > u32::MAX as u64 {
+            return Err(Memory);
+        }
+        match Box::new(alloc, [0; BLOCK]) {
+            Ok(buffer) => Ok(Sourcing {
+                part,
+                state: FileState::Shut,
+                buffer,
+                source: PhantomData,
+            }),
+            Err(_) => Err(Memory),
         }
     }
 

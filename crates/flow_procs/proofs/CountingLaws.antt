@@ -1,5 +1,5 @@
 -- Numbers in order: those that are made, and those that are left.
-use Rattle.flow_procs.proofs.Imports.{AreLong, Begins, Column, List, Makes, Means, None, Some, Spec, Table, UInt, [], adds, ap, append-nil, append_assoc, arith, chunk_rows, count_on, count_up, counting_own, false, inl, length, length-map, map, map-append, max, min, no_lists, number_row, refl, replicate, rows_of, subst, suc, sym, unread, values, zero, ℕ, ◌++◌, ◌+◌, ◌-◌, ◌<◌, ◌∙◌, ◌∷◌, ◌≡◌}
+use Rattle.flow_procs.proofs.Imports.{AreLong, Begins, Column, List, Makes, Means, Some, Spec, Table, UInt, [], adds, ap, append-nil, append_assoc, arith, chunk_rows, count_on, count_up, counting_own, inl, length, length-map, map, map-append, max, min, no_lists, number_row, refl, replicate, rows_of, subst, suc, sym, unread, values, zero, ℕ, ◌++◌, ◌+◌, ◌-◌, ◌<◌, ◌∙◌, ◌∷◌, ◌≡◌}
 use Rattle.chunk_data.specs.declared.typed_value.ColumnType.TheVariants as column
 use Rattle.query_model.specs.declared.processor_spec.Spec.TheVariants as spec
 

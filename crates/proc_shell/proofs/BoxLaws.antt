@@ -1,7 +1,6 @@
 -- The clauses of the calls of a shell, from what its kernel and its notes do.
-use Rattle.proc_shell.proofs.Imports.{All, All-cons, All-nil, AllOutputsFinished, AnswerComes, AreFitting, Bool, BoxPicture, Continues, Err, Fails, FaultHolds, FaultInCall, FaultIsDue, Faults, FitsInput, FollowsKept, HasNotedEnd, HasSize, HasSpecPorts, Held, IfErr, IfSome, IsAtMost, IsBadFile, IsBegun, IsKernelOf, IsLoadRefused, IsPulled, IsRunning, IsShelled, IsSourceKind, IsValid, IsWorkOf, Keeps, KeepsLimits, KeepsMade, KernelState, Kind, List, Lists, LoadedShell, Loads, Made, Makes, MakesTypes, MayExpand, Means, Moves, None, Notes, NotesNoEnd, Nothing, Ok, OnOk, Option, OwnState, Passes, Picture, Prepared, PreparesLawfully, Progresses, ReaderView, Result, RowCount, ShellFails, ShellPrepares, ShellWorks, ShutsShell, Some, Spec, Status, StatusComes, Table, Takes, Unworked, WorkFault, Works, WorksHeld, [], ap, append-nil, ap₂, arith, both-same, by-place, changed-by-both, chunk_rows, common_steps, false, file_in, file_of, files_by, fitting-more, fitting-past, gathered_with, growth_in, held_made, held_option, held_unworked, in_count, inl, inr, is_some, is_wanted, kept_input, kept_inputs, kept_output, kept_outputs, kind_of, length, loaded_seen, most_rows, no_lists, no_table, none-pulled, noted_by, option_map, out_count, own_of, pulled_at, reading_of, refl, rows_if_some, rows_pulled, shell_seen, shell_state, source_of, subst, sym, total-nothing, total_rows, true, unworked_at, with_chunk, with_view, work_of, ℕ, ◌++◌, ◌+◌, ◌<◌, ◌==◌, ◌||◌, ◌∙◌, ◌≡◌, ◌≢◌, ◌≤◌, ◌⊎◌, HasMade}
+use Rattle.proc_shell.proofs.Imports.{files_by, cases_eq, All, All-cons, All-nil, AnswerComes, AreFitting, Bool, BoxPicture, Continues, Err, Fails, FaultHolds, Faults, FitsInput, FollowsKept, HasSize, HasSpecPorts, Held, IfErr, IfSome, IsAtMost, IsBegun, IsKernelOf, IsLoadRefused, IsPulled, IsRunning, IsShelled, IsValid, IsWorkOf, Keeps, KeepsLimits, KeepsMade, KernelState, Kind, List, Lists, LoadedShell, Loads, Made, Makes, MakesTypes, Means, Moves, None, Notes, NotesNoEnd, Nothing, Ok, OnOk, Option, OwnState, Passes, Picture, PreparesLawfully, Progresses, ReaderView, Result, RowCount, ShellFails, ShellPrepares, ShellWorks, ShutsShell, Some, Spec, Status, StatusComes, Table, Takes, Unworked, WorkFault, Works, WorksHeld, [], ap, append-nil, arith, both-same, changed-by-both, chunk_rows, common_steps, false, fitting-more, fitting-past, held_made, held_option, held_unworked, in_count, inl, inr, is_some, is_wanted, kept_input, kept_inputs, kept_output, kept_outputs, kind_of, length, loaded_seen, most_rows, no_lists, no_table, none-pulled, noted_by, option_map, out_count, own_of, pulled_at, reading_of, refl, rows_if_some, rows_pulled, shell_seen, shell_state, source_of, subst, sym, total-nothing, total_rows, true, unworked_at, with_chunk, with_view, work_of, ℕ, ◌++◌, ◌+◌, ◌<◌, ◌==◌, ◌∙◌, ◌≡◌, ◌≢◌, ◌≤◌, ◌⊎◌, HasMade}
 use Rattle.proc_api.specs.declared.status.Status.TheVariants as status
-use Rattle.proc_api.specs.declared.status.WorkFault.TheVariants as fault
 use Rattle.proc_api.specs.declared.status.LoadRefusal.TheVariants as refusal
 use Rattle.proc_shell.proofs.PortMoves.{never-true, shut-law, total-one}
 use Rattle.proc_shell.proofs.KeepLaws.{all-none, cond-none, end-own, had-same, keeps-over, made-hidden, made-shown, noted-own, pulled-so, stops}
@@ -28,11 +27,6 @@ held-all : (R : Table → Type 0) (o : Option Table) → IfSome o R
     → All (λ (t : Table). (0 < length t.rows) × R t) (held_made (held_option o))
 held-all R o h = grind (arith, common_steps, All-nil, by-rows, All-cons)
 
--- what isn't worked came from input 0 or from a wanted one
-pub wanted-source : (wants : ℕ → Bool) (makes : Bool) (h : Held) → is_wanted wants makes h ≡ true
-    → ((source_of h ≡ 0) × (held_unworked h ≡ [])) ⊎ (wants (source_of h) ≡ true)
-wanted-source wants makes h e = grind (arith, common_steps)
-
 -- a kind that makes none holds none
 pub wanted-made : (wants : ℕ → Bool) (makes : Bool) (h : Held) → is_wanted wants makes h ≡ true
     → makes ≡ false → held_made h ≡ []
@@ -45,7 +39,7 @@ pub continues-so : (k : Kind) (x y : KernelState) (wants : ℕ → Bool) (makes 
     → (makes ≡ false → made ≡ []) → IsWorkOf (Some y.spec) (work_of y i unworked made))
     → is_wanted wants makes h ≡ true → Continues k x y h
 continues-so k x y wants makes h same kind shelled uses wanted =
-    grind (arith, common_steps, wanted-source, wanted-made)
+    grind (arith, common_steps, wanted-made)
 
 -- ---- load
 
@@ -57,8 +51,7 @@ none-mapped f o e = grind (arith, common_steps)
 pub wrong-kind : (k : Kind) (d : Option ReaderView) (count : RowCount) (o : Option LoadedShell)
     (s : Spec) → is_some o ≡ false → kind_of s ≢ k
     → IsLoadRefused refusal.WrongKind (shell_seen k d count o) s
-wrong-kind k d count (Some p) s none h = absurd (cc)
-wrong-kind k d count None s none h = (refl, h)
+wrong-kind k d count o s none h = grind (arith, common_steps)
 
 noted-none : (d : Option ReaderView) → noted_by d 0 ≡ 0
 noted-none d = grind (arith, common_steps)
@@ -74,18 +67,8 @@ module _ (k : Kind) (d : Option ReaderView) (count : RowCount) (s : Spec) (p : L
     worked = no_lists;
     fit = no_lists;
     fit_are = λ i. refl;
-    ins_are = λ i. sym
-        (cond-none (i == source_of p.held) (held_unworked p.held) (ap held_unworked x.held));
-    rows =
-        let y : Means (reading_of F) s p.kernel.own no_lists no_lists [] =
-        subst (λ g. Means
-        (record { files = files_by d; file = file_in p.kernel.spec g; unworked = [] }) s
-        p.kernel.own no_lists no_lists []) (sym x.stage) (x.begins.nothing (files_by d)) in
-        made-shown p.kernel.spec (reading_of F) p.kernel.own no_lists no_lists _
-        (subst (λ h. Means (reading_of F) p.kernel.spec p.kernel.own no_lists no_lists
-        (chunk_rows (held_made h))) (sym x.held)
-        (subst (λ z. Means (reading_of F) z p.kernel.own no_lists no_lists []) (sym x.begins.spec)
-        y));
+    ins_are = grind (arith, cond-none);
+    rows = grind (arith, common_steps, made-shown, x.begins.nothing (files_by d));
     over = λ o fin. let f : false ≡ true = rw x.notes at fin in absurd (cc);
     read = λ o fin. let f : false ≡ true = rw x.notes at fin in absurd (cc);
   }
@@ -94,22 +77,18 @@ module _ (k : Kind) (d : Option ReaderView) (count : RowCount) (s : Spec) (p : L
   unfolding kept_output kept_input total_rows
   fresh-keeps = record {
     ports = rw x.notes tt;
-    opens = λ e. let f : None ≡ Some (Prepared status.ExpandPipeline) = rw x.notes at e in
-        absurd (cc);
+    opens = grind arith;
     idle = x.uses;
     rows = fresh-meant;
     types = λ o. All-nil (λ (t : Table). MakesTypes (Some p.kernel.spec) no_lists t.types);
-    made_types = rw x.held
-        (All-nil (λ (t : Table). MakesTypes (Some p.kernel.spec) no_lists t.types));
+    made_types = grind arith;
     sizes = λ o. All-nil (HasSize (Some p.kernel.spec));
-    made_sizes = rw x.held (All-nil (HasSize (Some p.kernel.spec)));
-    unworked = rw x.held (All-nil (λ (t : Table). IsPulled no_lists t.types));
+    made_sizes = grind arith;
+    unworked = grind arith;
     counted = inl since;
     finishes = λ o fin. let f : false ≡ true = rw x.notes at fin in absurd (cc);
     closes = λ i fin. let f : false ≡ true = rw x.notes at fin in absurd (cc);
-    noted =
-        λ i there n. absurd (x.begins.unended i (noted-own p.kernel.spec p.kernel.own (gathered_with
-        p.kernel.spec p.kernel.own.gathered (held_unworked p.held)) p.kernel.own.gathered i n));
+    noted = λ i there n. absurd (x.begins.unended i (noted-own _ p.kernel.own _ _ i n));
   }
 
 -- a blank shell that was loaded
@@ -118,26 +97,8 @@ pub loads : (k : Kind) (d : Option ReaderView) (count more : RowCount) (o : Opti
       total = count.total;
       since = 0;
     } → Loads (shell_seen k d count o) s (loaded_seen k d more p)
-loads k d count more (Some y) s p none sk x m = absurd (cc)
-loads k d count more None s p none sk x m =
-    let since : more.since ≡ 0 = ap (λ c. c.since) m in
-    record {
-      was_blank = refl;
-      of_kind = sk;
-      kind = refl;
-      lawful = refl;
-      files = refl;
-      spec = ap Some x.begins.spec;
-      counts = record { faults = refl; pendings = refl; pulled = ap (λ c. c.total) m };
-      fresh = record {
-        loaded = refl;
-        of_kind = ap kind_of x.begins.spec ∙ sk;
-        notes = rw (x.notes, since, noted-none d) refl;
-        ungrown = ap (growth_in p.kernel.spec) x.stage;
-        not_handed_out = ap (λ g. g.handed_out) x.stage;
-        keeps = λ l. fresh-keeps k d more s p x since;
-      };
-    }
+loads k d count more o s p none sk x m =
+    grind (arith, common_steps, noted-none d, fresh-keeps k d more s p x)
 
 -- ---- prepare
 
@@ -146,15 +107,12 @@ pub rows-turned : (x : KernelState) (h j : Held) (v w : Picture) (st : Status) �
     → Moves x h j v w st → length (chunk_rows (held_unworked j))
     ≡ length (chunk_rows (held_unworked h)) + rows_pulled v w
 rows-turned x h j v w st few y = elim y.pulls [
-  | inl z ↦
-      let same = ap (λ l. length (chunk_rows l)) z.unworked in
-      omega (arith, same, total-nothing 32 (pulled_at v w) z.nothing)
-  | inr z ↦
-      let before = ap (λ k. length (chunk_rows (held_unworked k))) z.before in
-      let after = ap (λ k. length (chunk_rows (held_unworked k))) z.after in
-      let here = ap (λ l. length (chunk_rows l)) z.here in
-      let lt : z.input < 32 = let a = z.in_range in omega (arith, a, few) in
-      omega (arith, before, after, here, total-one 32 z.input (pulled_at v w) lt z.others)
+  | inl z ↦ grind (arith, total-nothing)
+  | inr z ↦ grind (
+    arith,
+    common_steps,
+    total-one 32 z.input (pulled_at v w) (omega (arith, z.in_range, few)) z.others,
+  )
 ]
 
 -- a prepare leaves what is counted of its reader
@@ -178,17 +136,7 @@ module _ (k : Kind) (d : Option ReaderView) (p : LoadedShell) (b : OwnState) (j 
   PassesHere = Passes p v n (shell_state (record p.kernel { own = b }) j notes) w m st
 
   may-come : (u : Status) → AnswerComes u (record p.kernel { own = b }) j w → StatusComes u after
-  may-come status.NeedData e = e
-  may-come status.PortFull e = tt
-  may-come status.Ready (inl some) = inl some
-  may-come status.Ready (inr (inl row)) = inr (inl row)
-  may-come status.Ready (inr (inr bad)) =
-      inr (inr (subst (λ z. IsBadFile z (file_of after)) so.kind.0 bad))
-  may-come status.Async e =
-      record { source = subst IsSourceKind so.kind.0 e.0; unfetched = e.1 }
-  may-come status.ExpandPipeline e =
-      subst (λ z. MayExpand z (file_of after)) so.kind.0 e.0
-  may-come status.Finished e = tt
+  may-come u e = grind arith
 
   prepares-fit : out_count v ≤ 16 → HasSpecPorts p.kernel v → PassesHere
       → FollowsKept before v → IsRunning before → PreparesLawfully before v after w st
@@ -203,17 +151,8 @@ module _ (k : Kind) (d : Option ReaderView) (p : LoadedShell) (b : OwnState) (j 
         fits = λ fit. ap (λ z. z.fits) x.notes ∙ fit.fits;
         keeps = keeps-over k d p.kernel b p.held j p.notes notes n m v w st so x few ports f;
         stops = stops k d p.kernel b p.held j p.notes notes n m v w st so x few ports f;
-        ends = λ some each.
-            let all : AllOutputsFinished x.view = λ o lt.
-            ap₂ (λ a b. a || b) (x.pushes.finished o) (x.pushes.closed o)
-            ∙ each o (omega (arith, lt, x.pushes.outs)) in
-            let e = y.at_once (omega (arith, some, x.pushes.outs)) all in
-            record {
-              answer = e.answer;
-              chunks = both-same v x.view w (x.pushes.at_once each) e.chunks;
-            };
-        pushes = λ some.
-            y.waits (x.pushes.waits (let e = ap length y.made in omega (arith, e, some))).none;
+        ends = λ some each. grind (arith, both-same);
+        pushes = grind arith;
         room = y.room;
         misfit = λ never. absurd (never ports);
       }
@@ -276,45 +215,29 @@ module _ (k : Kind) (d : Option ReaderView) (count : RowCount) (x : KernelState)
       (shell_state (record x { own = b }) (held_option o) (record n { acted = true }))
 
   none-left : (i : ℕ) → unworked_at Q.work i ≡ []
-  none-left i =
-      cond-none (i == source_of (held_option o)) (held_unworked (held_option o)) (held-worked o)
+  none-left i = grind (arith, cond-none, held-worked)
 
   meant-before : (h : Held) (ins outs : Lists) (t : KeepsMade s (P h) ins outs)
       → Means (reading_of (P h)) s x.own t.fit outs (chunk_rows (held_made h))
-  meant-before h ins outs t =
-      made-hidden s (reading_of (P h)) x.own t.fit outs (chunk_rows (held_made h)) t.rows
+  meant-before h ins outs t = grind (arith, made-hidden)
 
   meant-after : (fit outs : Lists) → Means (reading_of Q) s b fit outs (rows_if_some o)
       → HasMade (reading_of Q) s (own_of Q.work) fit outs (chunk_rows Q.work.made)
-  meant-after fit outs h =
-      made-shown s (reading_of Q) b fit outs (chunk_rows Q.work.made)
-      (subst (Means (reading_of Q) s b fit outs) (sym (held-rows o)) h)
+  meant-after fit outs h = grind (arith, made-shown, held-rows)
 
   -- nothing was held, and rows were made
   makes-meant : Makes s x.own b o → (ins outs : Lists) → KeepsMade s (P Nothing) ins outs
       → KeepsMade s Q ins outs
   unfolding kept_output
-  makes-meant y ins outs t = record {
-    worked = t.worked;
-    fit = t.fit;
-    ins_are = λ i. t.ins_are i ∙ ap (λ l. t.worked i ++ l)
-        (cond-none (i == 0) [] refl ∙ sym (none-left i));
-    fit_are = t.fit_are;
-    rows = meant-after t.fit outs
-        (y.means (reading_of Q) t.fit outs (meant-before Nothing ins outs t));
-    over = λ i fin.
-        let was = t.over i fin in
-        let nothing = y.nothing was.all_made in
-        record {
-          nothing_waits = ap (λ z. held_made (held_option z)) nothing.1;
-          all_worked = held-worked o;
-          all_made = ap (λ z. z.unmade) nothing.0 ∙ was.all_made;
-          noted = subst (λ z. HasNotedEnd s (record z { gathered = (own_of Q.work).gathered }))
-              (sym nothing.0) (end-own s x.own (own_of (P Nothing).work).gathered
-              (own_of Q.work).gathered was.noted);
-        };
-    read = t.read;
-  }
+  makes-meant y ins outs t = grind (
+    arith,
+    cond-none,
+    none-left,
+    held-worked,
+    end-own,
+    meant-after t.fit outs (y.means (reading_of Q) t.fit outs (meant-before Nothing ins outs t)),
+    meant-before Nothing ins outs t,
+  )
 
   abbrev Fits : ℕ → Table → Type 0
   Fits i t = FitsInput (Some s) i t.types
@@ -324,18 +247,13 @@ module _ (k : Kind) (d : Option ReaderView) (count : RowCount) (x : KernelState)
       → ((j : ℕ) → AreFitting (Fits j) (worked j) (fit j)) → (j : ℕ)
       → AreFitting (Fits j) (with_chunk i c worked j) (with_chunk i c fit j)
   fit-one i c worked fit fits are j =
-      by-place (λ n. AreFitting (Fits n) (with_chunk i c worked n) (with_chunk i c fit n)) i j
-      (rw (chunk-here i c worked, chunk-here i c fit)
-      (fitting-more (Fits i) (worked i) (fit i) c fits (are i)))
-      (λ ne. rw (chunk-elsewhere i j c worked ne, chunk-elsewhere i j c fit ne) (are j))
+      grind (arith, cases_eq, chunk-here, chunk-elsewhere, fitting-more)
 
   fit-none : (i : ℕ) (c : Table) (worked fit : Lists) → (Fits i c → ⊥)
       → ((j : ℕ) → AreFitting (Fits j) (worked j) (fit j)) → (j : ℕ)
       → AreFitting (Fits j) (with_chunk i c worked j) (fit j)
   fit-none i c worked fit misfit are j =
-      by-place (λ n. AreFitting (Fits n) (with_chunk i c worked n) (fit n)) i j
-      (rw (chunk-here i c worked) (fitting-past (Fits i) (worked i) (fit i) c misfit (are i)))
-      (λ ne. rw (chunk-elsewhere i j c worked ne) (are j))
+      grind (arith, cases_eq, chunk-here, chunk-elsewhere, fitting-past)
 
   -- the chunk was worked, which was the last of its input: it fits, or it was dropped
   takes-meant : (i : ℕ) (c : Table) → Takes s x.own i c b o → (ins outs : Lists)
@@ -349,8 +267,7 @@ module _ (k : Kind) (d : Option ReaderView) (count : RowCount) (x : KernelState)
       λ fit are made. record {
         worked = with_chunk i c t.worked;
         fit = fit;
-        ins_are = λ j. t.ins_are j ∙ sym (append-nil (with_chunk i c t.worked j))
-            ∙ ap (λ l. with_chunk i c t.worked j ++ l) (sym (none-left j));
+        ins_are = grind (arith, append-nil, none-left);
         fit_are = are;
         rows = meant-after fit outs made;
         over = λ j fin. let none = (t.over j fin).all_worked in absurd (cc);
@@ -398,14 +315,10 @@ module _ (k : Kind) (d : Option ReaderView) (count : RowCount) (x : KernelState)
           made_types = λ i z lt. (typed i z lt).1;
           sizes = kept.sizes;
           made_sizes = sized;
-          unworked = all-none (λ (t : Table). IsPulled ins t.types) (held_unworked (held_option o))
-              (held-worked o);
+          unworked = grind (arith, all-none, held-worked);
           counted = kept.counted;
           finishes = kept.finishes;
-          closes = λ i fin. elim (kept.closes i fin) [
-            | inl all ↦ inl (record { some = all.some; closed = all.closed })
-            | inr enough ↦ inr enough
-          ];
+          closes = λ i fin. grind (arith, kept.closes);
           noted = λ i there m.
               let was = kept.noted i there (noted-own s x.own x.own.gathered
               (own_of (P h).work).gathered i
@@ -441,17 +354,11 @@ works-part k d count p q w = go p.held w.works
         → (Continues k p.kernel (record p.kernel { own = q.kernel.own }) (held_option o)
         → X h (shell_state (record p.kernel { own = q.kernel.own }) (held_option o)
         (record p.notes { acted = true }))) → X h q
-    to h o e f =
-        let at : q ≡ shell_state (record p.kernel { own = q.kernel.own }) (held_option o)
-        (record p.notes { acted = true }) =
-        λ i. shell_state (w.continues.kernel i) (e i) (w.notes i) in
-        subst (X h) (sym at) (f (subst (λ z. Continues k p.kernel z.kernel z.held) at w.continues))
+    to h o e f = grind (arith, X)
 
     go : (h : Held) → WorksHeld p.kernel h q.kernel.own q.held → X h q
-    go Nothing y = to Nothing y.out y.held (λ so.
-        makes-works k d count p.kernel p.notes q.kernel.own y.out so y.makes y.valid)
-    go (Unworked i c) y = to (Unworked i c) y.out y.held (λ so.
-        takes-works k d count p.kernel p.notes q.kernel.own y.out so i c y.takes)
+    go Nothing y = search (arith, to, makes-works)
+    go (Unworked i c) y = search (arith, to, takes-works)
     go (Made c) y = absurd y
 
 pub works : (k : Kind) (d : Option ReaderView) (count : RowCount) (p q : LoadedShell)
@@ -468,42 +375,11 @@ module _ (k : Kind) (d : Option ReaderView) (count : RowCount) (p q : LoadedShel
   fails-part : Fails p.kernel f → FaultHolds (Some f) (loaded_seen k d count p)
       → p.kernel.stage.handed_out ≡ false
       → Faults f (loaded_seen k d count p) (loaded_seen k d count q)
-  fails-part why due out =
-      record {
-        same = record {
-          view = ap (λ n. n.view) x.notes;
-          fits = ap (λ n. n.fits) x.notes;
-          answer =
-              ap (λ n. n.answer) x.notes;
-          growth = ap (λ z. growth_in z.spec z.stage) x.kernel;
-          not_handed_out = ap (λ z. z.stage.handed_out) x.kernel ∙ out;
-        };
-        kept = ap (λ n. n.fault) x.notes;
-        in_call = (told f why due).0;
-        holds = (told f why due).1;
-        is_due = λ lawful. (told f why due).2;
-      }
-    where
-      still : (g : WorkFault) → FaultHolds (Some g) (loaded_seen k d count p)
-          → FaultHolds (Some g) (record (loaded_seen k d count p) { spec = Some q.kernel.spec })
-      still g = subst (λ s. FaultHolds (Some g)
-          (record (loaded_seen k d count p) { spec = Some s }))
-          (sym (ap (λ z. z.spec) x.kernel))
-
-      told : (g : WorkFault) → Fails p.kernel g → FaultHolds (Some g) (loaded_seen k d count p)
-          → FaultInCall g (loaded_seen k d count p) (loaded_seen k d count q)
-          × FaultHolds (Some g) (loaded_seen k d count q)
-          × FaultIsDue (Some g) (loaded_seen k d count q)
-      told fault.Memory y z = (tt, tt, tt)
-      told (fault.Bad place) y z = (tt, still (fault.Bad place) z, tt)
-      told (fault.BadList line) y z = (tt, still (fault.BadList line) z, tt)
-      told g y z = absurd y
+  fails-part why due out = grind (arith, common_steps)
 
 pub fails : (k : Kind) (d : Option ReaderView) (count : RowCount) (p q : LoadedShell)
     (r : Result (Unit {0}) WorkFault) → IsRunning (loaded_seen k d count p)
     → IfErr r (λ f. ShellFails f p q) → IfErr r (Fails p.kernel)
     → ((f : WorkFault) → Fails p.kernel f → FaultHolds (Some f) (loaded_seen k d count p))
     → IfErr r (λ f. Faults f (loaded_seen k d count p) (loaded_seen k d count q))
-fails k d count p q (Ok u) run w why due = tt
-fails k d count p q (Err f) run w why due =
-    fails-part k d count p q f w why (due f why) run.not_handed_out
+fails k d count p q r run w why due = grind (arith, fails-part)

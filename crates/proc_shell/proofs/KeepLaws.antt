@@ -1,5 +1,5 @@
 -- A shell keeps the contract of its kernel's kind over a prepare.
-use Rattle.proc_shell.proofs.Imports.{All, All-append, All-behind, All-weaker, AllOutputsClosed, AnswerComes, AreOpen, ArePortsOf, Bool, BoxPicture, Continues, CountsRows, EndsNow, Flags, FollowsKept, GrowthForm, HadPorts, HasEnough, HasNotedEnd, HasReadEnough, HasSamePorts, HasSize, HasSpecPorts, Held, InputFollows, IsOver, IsPulled, IsReadUp, Keeps, KeepsMade, KeepsOver, KernelState, Kind, List, Lists, MakesTypes, MayBeInput, Means, Moves, None, Notes, NotesEnd, Nothing, Option, OwnState, Passes, Picture, PortFlags, Prepared, PullsNoMore, PullsOne, Pushes, ReaderView, RowCount, Some, Spec, StandStill, Status, StaysFit, Table, [], all-fitting, all_port_flags, ap, append-nil, append_assoc, append_cancel_right, ap₂, arith, both_ways, by-place, cases_eq, cases_lt, chunk_rows, common_steps, cond, cond_both, counted-more, enough-more, eq-eqb, false, false_from_ne_true, front-all, gathered_with, get_or, growth_in, held_made, held_unworked, in_count, inl, input_at, inr, is_ended, is_in_finished, is_out_finished, kept_input, kept_input-of, kept_input-past, kept_inputs, kept_inputs-of, kept_output, kept_output-of, kept_output-past, kept_outputs, kept_outputs-of, kept_ports, length, loaded_seen, makes-more, may-be-input, ne_eqb, never-enough, not-true, or_cases, out_count, output_at, own_of, pulled-last, pulled-more, pulled_at, pushed_at, raised, reading_of, refl, rows_pulled, shell_state, source_of, subst, sym, taken_out, total_rows, true, unworked_at, wanting-not-enough, with_pulled, with_pushed, ℕ, ◌++◌, ◌<◌, ◌==◌, ◌||◌, ◌∙◌, ◌∷◌, ◌≡◌, ◌≢◌, ◌≤◌, ◌⊎◌, HasMade, Reading, Row}
+use Rattle.proc_shell.proofs.Imports.{All, All-append, All-behind, All-weaker, AllOutputsClosed, AnswerComes, AreOpen, ArePortsOf, Bool, BoxPicture, Continues, CountsRows, EndsNow, Flags, FollowsKept, GrowthForm, HadPorts, HasEnough, HasNotedEnd, HasReadEnough, HasSize, HasSpecPorts, Held, InputFollows, IsOver, IsPulled, IsReadUp, Keeps, KeepsMade, KeepsOver, KernelState, Kind, List, Lists, MakesTypes, MayBeInput, Means, Moves, None, Notes, NotesEnd, Nothing, Option, OwnState, Passes, Picture, PortFlags, Prepared, PullsNoMore, Pushes, ReaderView, RowCount, Some, Spec, Status, StaysFit, Table, [], all-fitting, all_port_flags, ap, append-nil, append_assoc, append_cancel_right, ap₂, arith, both_ways, cases_eq, cases_lt, chunk_rows, common_steps, cond, cond_both, counted-more, enough-more, eq-eqb, false, false_from_ne_true, front-all, gathered_with, get_or, growth_in, held_made, held_unworked, in_count, inl, input_at, inr, is_ended, is_in_finished, kept_input, kept_input-of, kept_input-past, kept_inputs, kept_inputs-of, kept_output, kept_output-of, kept_output-past, kept_outputs, kept_outputs-of, kept_ports, length, loaded_seen, makes-more, may-be-input, ne_eqb, never-enough, not-true, or_cases, out_count, output_at, own_of, pulled-last, pulled-more, pulled_at, pushed_at, raised, reading_of, refl, rows_pulled, shell_state, source_of, subst, sym, taken_out, true, unworked_at, wanting-not-enough, with_pulled, with_pushed, ℕ, ◌++◌, ◌<◌, ◌==◌, ◌||◌, ◌∙◌, ◌≡◌, ◌≢◌, ◌≤◌, ◌⊎◌, HasMade, Reading, Row}
 use Rattle.proc_api.specs.declared.status.Status.TheVariants as status
 use Rattle.proc_shell.proofs.PortMoves.{all-or, both-none, kept-count, never-true, outs-count}
 use Rattle.proc_shell.proofs.TurnLaws.{holds-unended}
@@ -33,14 +33,12 @@ noted-ports s own i m n growth noted h = grind arith
 -- while it asks to grow, each port is open
 opens-now : (x : KernelState) (k : Held) (w : Picture) (st : Status) → AnswerComes st x k w
     → Some (Prepared st) ≡ Some (Prepared status.ExpandPipeline) → AreOpen (all_port_flags w)
-opens-now x k w status.ExpandPipeline comes e = comes.1
-opens-now x k w st comes e = absurd (cc)
+opens-now x k w st comes e = grind arith
 
 -- the ports that were kept are those of any box with that spec and growth
 pub had-same : (view : Option PortFlags) (p q : BoxPicture) → q.spec ≡ p.spec
     → q.growth ≡ p.growth → HadPorts view p → HadPorts view q
-had-same None p q spec growth had = tt
-had-same (Some ports) p q spec growth had = rw (spec, growth) had
+had-same view p q spec growth had = grind arith
 
 -- what the kernel notes is no matter of what it gathered
 pub noted-own : (s : Spec) (a : OwnState) (l m : List Table) (i : ℕ) → NotesEnd (Some s)
@@ -65,9 +63,7 @@ made-hidden s x a worked outs wait h = grind (arith, append-nil, append_cancel_r
 -- the count of a prepare, which pulls nothing where it pushes
 pub pulled-so : (h m : Held) (v u w : Picture) (old new : RowCount) → Pushes h m v u
     → CountsRows (rows_pulled u w) old new → new.total ≡ raised old.total (rows_pulled v w)
-pulled-so h m v u w old new pushes counts =
-    counts.total ∙ ap (raised old.total) (ap (total_rows 32)
-    (λ z i. ap (λ y. taken_out y.chunk (input_at w i).chunk) (pushes.inputs i) z))
+pulled-so h m v u w old new pushes counts = grind arith
 
 -- A prepare of a kernel that holds h: what was made is pushed, which leaves the view u and m, and
 -- then a turn is taken, which leaves b and k.
@@ -125,42 +121,15 @@ module _ (kind : Kind) (d : Option ReaderView) (kernel : KernelState) (b : OwnSt
   pushed-others : (o : ℕ) → o ≢ g.pushes.out → pushed_at v w o ≡ []
   pushed-others o ne = pushed-is o ∙ g.pushes.others o ne
 
-  -- where flags are kept, they are those of as many ports as the view has, or open
-  same-counts : (kept : PortFlags) → first.view ≡ Some kept
-      → ArePortsOf (Some s) growth (length kept.inputs) (length kept.outputs)
-      → HasSamePorts s kept (in_count v) (out_count v)
-  same-counts kept e had =
-      so.shelled.still growth kept (in_count v) (out_count v) had ports
-      (subst (λ x. StandStill (Some s) x (in_count v) (out_count v)) e fit.still)
-
   had-counts : HadPorts first.view p → AreOpen (kept_ports first.view)
       ⊎ ((kept_inputs p ≡ in_count v) × (kept_outputs p ≡ out_count v))
   unfolding kept_inputs kept_outputs
-  had-counts = go first.view refl
-    where
-      go : (x : Option PortFlags) → first.view ≡ x → HadPorts x p → AreOpen (kept_ports x)
-          ⊎ ((length (kept_ports x).inputs ≡ in_count v)
-          × (length (kept_ports x).outputs ≡ out_count v))
-      go None e had = inl (record { outputs = λ o. refl; inputs = λ i. refl })
-      go (Some kept) e (inl had) = elim (same-counts kept e had)
-          [ inl n ↦ inr (sym n.0, sym n.1) | inr open' ↦ inl open'.0 ]
-      go (Some kept) e (inr had) = inl had.1
+  had-counts had = search (arith, common_steps)
 
   noted-counts : (i : ℕ) → NotesEnd (Some s) a i → HadPorts first.view p
       → (first.view ≡ None) ⊎ (kept_inputs p ≡ in_count v)
   unfolding kept_inputs
-  noted-counts i noted = go first.view refl
-    where
-      same : (kept : PortFlags) → HasSamePorts s kept (in_count v) (out_count v)
-          → length kept.inputs ≡ in_count v
-      same kept h = elim h [ inl n ↦ sym n.0 | inr open' ↦ absurd (open'.1 a i noted) ]
-
-      go : (x : Option PortFlags) → first.view ≡ x → HadPorts x p
-          → (x ≡ None) ⊎ (length (kept_ports x).inputs ≡ in_count v)
-      go None e had = inl refl
-      go (Some kept) e (inl had) = inr (same kept (same-counts kept e had))
-      go (Some kept) e (inr had) = inr (same kept (same-counts kept e
-          (noted-ports s a i _ _ growth noted had.0)))
+  noted-counts i noted had = search (arith, common_steps, noted-ports)
 
   never-out : {X : Type 0} (o : ℕ) → AreOpen (kept_ports first.view)
       → (kept_output p o).fin_out ≡ true → X
@@ -189,8 +158,7 @@ module _ (kind : Kind) (d : Option ReaderView) (kernel : KernelState) (b : OwnSt
       elim (had-counts kept.ports) [
         | inl none ↦ never-out o none before
         | inr n ↦ elim (kept.finishes o before) [
-          | inl all ↦ inl (λ i less. ap (λ x. is_ended x.flags) (g.pushes.inputs i)
-              ∙ ended-stays _ _ (follows.inputs i less) (all i (omega (arith, n, less))))
+          | inl all ↦ grind (arith, ended-stays)
           | inr enough ↦ inr enough
         ]
       ]
@@ -205,37 +173,14 @@ module _ (kind : Kind) (d : Option ReaderView) (kernel : KernelState) (b : OwnSt
       elim (had-counts kept.ports) [
         | inl none ↦ never-in i none before
         | inr n ↦ elim (kept.closes i before) [
-          | inl all ↦ inl (
-            omega (arith, n, all.some),
-            (λ o less. g.pushes.closed o
-                ∙ (follows.outputs o less).fin_in (all.closed o (omega (arith, n, less)))),
-          )
+          | inl all ↦ grind (arith, common_steps)
           | inr enough ↦ inr enough
         ]
       ]
 
   -- the chunks that are unworked are those that were, and what was pulled
   unworked-is : (i : ℕ) → unworked_at q.work i ≡ unworked_at p.work i ++ pulled_at v w i
-  unworked-is i =
-      elim mv.pulls [
-        | inl x ↦
-            let same : unworked_at q.work i ≡ unworked_at p.work i =
-            rw (x.source ∙ g.pushes.source, x.unworked ∙ g.pushes.unworked) refl in
-            same ∙ sym (append-nil (unworked_at p.work i))
-            ∙ ap (λ l. unworked_at p.work i ++ l) (sym (pulled-is i ∙ x.nothing i))
-        | inr x ↦
-            let none : unworked_at p.work i ≡ [] = cond-none (i == source_of h) (held_unworked h)
-            (sym g.pushes.unworked ∙ ap held_unworked x.before) in
-            ap (λ z. cond (i == source_of z) (held_unworked z) []) x.after ∙ pulled-one x i
-            ∙ sym (pulled-is i) ∙ ap (λ l. l ++ pulled_at v w i) (sym none)
-      ]
-    where
-      pulled-one : (x : PullsOne (record kernel { own = b }) m k u w) (j : ℕ)
-          → cond (j == x.input) (x.chunk ∷ []) [] ≡ pulled_at u w j
-      pulled-one x j =
-          by-place (λ n. cond (n == x.input) (x.chunk ∷ []) [] ≡ pulled_at u w n) x.input j
-          (ap (λ c. cond c (x.chunk ∷ []) []) (eq-eqb x.input x.input refl) ∙ sym x.here)
-          (λ ne. ap (λ c. cond c (x.chunk ∷ []) []) (ne_eqb j x.input ne) ∙ sym (x.others j ne))
+  unworked-is i = grind (arith, common_steps, pulled-is, cond-none, eq-eqb, ne_eqb, cases_eq)
 
   ends-after : HasNotedEnd s b → HasNotedEnd s (own_of q.work)
   ends-after n = end-own s b b.gathered (gathered_with s b.gathered (held_unworked k)) n
@@ -257,12 +202,7 @@ module _ (kind : Kind) (d : Option ReaderView) (kernel : KernelState) (b : OwnSt
           | inr x ↦ absurd (elim (was-finished ins outs kept o lt fin) [
             | inl all ↦ holds-unended (input_at u x.input).flags x.holds
                 (all x.input (let n = x.in_range in omega (arith, n, g.pushes.ins)))
-            | inr enough ↦ x.unfinished (omega (arith, lt, g.pushes.outs)) (λ j less.
-                let one =
-                so.shelled.enough_one ins enough growth (in_count v) (out_count v) ports in
-                let z : o ≡ j = omega (arith, one, lt, less, g.pushes.outs) in
-                subst (λ n. is_out_finished (output_at u n) ≡ true) z
-                (ap (λ c. c || (output_at u o).fin_in) fin))
+            | inr enough ↦ grind (arith, common_steps)
           ])
         ];
         all_made = rest.0;
@@ -290,11 +230,7 @@ module _ (kind : Kind) (d : Option ReaderView) (kernel : KernelState) (b : OwnSt
       (so.shelled.lets_push (reading_of p) a fit outs (with_pushed v w outs) growth (in_count v)
       (out_count v) g.pushes.out g.pushes.left (held_made k) ports
       (elim g.pushes.by [
-        | inl x ↦ inl (
-          x.0,
-          omega (arith, x.0, few),
-          ap (λ l. outs g.pushes.out ++ l) (pushed-is g.pushes.out ∙ x.1),
-        )
+        | inl x ↦ grind (arith, common_steps, pushed-is)
         | inr none ↦ inr none
       ])
       (λ j ne. ap (λ l. outs j ++ l) (pushed-others j ne) ∙ append-nil (outs j))
@@ -302,32 +238,22 @@ module _ (kind : Kind) (d : Option ReaderView) (kernel : KernelState) (b : OwnSt
 
   meant-before : (ins outs : Lists) (t : KeepsMade s p ins outs)
       → Means (reading_of p) s a t.fit outs (chunk_rows p.work.made)
-  meant-before ins outs t =
-      made-hidden s (reading_of p) a t.fit outs (chunk_rows p.work.made) t.rows
+  meant-before ins outs t = grind (arith, made-hidden)
 
   pub through : (ins outs : Lists) → Keeps p ins outs → KeepsMade s p ins outs
       → KeepsMade s q (with_pulled v w ins) (with_pushed v w outs)
   through ins outs kept t = record {
     worked = t.worked;
     fit = t.fit;
-    ins_are = λ i. ap (λ l. l ++ pulled_at v w i) (t.ins_are i) ∙ append_assoc (t.worked i)
-        (unworked_at p.work i) (pulled_at v w i) ∙ ap (λ l. t.worked i ++ l) (sym (unworked-is i));
+    ins_are = λ i. grind (arith, t.ins_are i, unworked-is i, append_assoc);
     fit_are = t.fit_are;
     rows = made-shown s (reading_of q) b t.fit (with_pushed v w outs) (chunk_rows (held_made k))
         (made-rows outs t.fit (meant-before ins outs t));
     over = λ o fin. elim (finishes-now o fin) [
       | inl before ↦ over-before ins outs kept t o before.0 before.1
-      | inr now ↦ record {
-        nothing_waits = ap held_made now.after;
-        all_worked = ap held_unworked now.after;
-        all_made = now.unmade;
-        noted = ends-after now.noted;
-      }
+      | inr now ↦ grind (arith, ends-after)
     ];
-    read = λ o fin. elim (finishes-now o fin) [
-      | inl before ↦ t.read o (kept-out o before.0 before.1)
-      | inr now ↦ now.read
-    ];
+    read = λ o fin. grind (arith, finishes-now o fin, t.read o, kept-out o);
   }
 
   -- where nothing is held, all chunks that were pulled are worked, and the kernel has made of those
@@ -335,14 +261,7 @@ module _ (kind : Kind) (d : Option ReaderView) (kernel : KernelState) (b : OwnSt
   all-worked : (ins outs : Lists) (t : KeepsMade s p ins outs) → m ≡ Nothing
       → ((i : ℕ) → ins i ≡ t.worked i)
       × Means (reading_of p) s b t.fit outs (chunk_rows (held_made h))
-  all-worked ins outs t e =
-      let none : held_unworked h ≡ [] = sym g.pushes.unworked ∙ ap held_unworked e in (
-        λ i. t.ins_are i
-            ∙ ap (λ l. t.worked i ++ l) (cond-none (i == source_of h) (held_unworked h) none)
-            ∙ append-nil (t.worked i),
-        g.turns.leaves.means (reading_of p) t.fit outs (chunk_rows (held_made h))
-            (meant-before ins outs t),
-      )
+  all-worked ins outs t e = search (arith, append-nil, cond-none, meant-before)
 
   -- the kernel has read enough
   now-enough : (ins outs : Lists) → Keeps p ins outs → m ≡ Nothing → HasEnough s b
@@ -374,8 +293,7 @@ module _ (kind : Kind) (d : Option ReaderView) (kernel : KernelState) (b : OwnSt
   ends-finished ins outs kept o lt fin =
       elim (mv.finishes o (omega (arith, lt, g.pushes.outs)) fin) [
         | inl before ↦ elim (was-finished ins outs kept o lt before) [
-          | inl all ↦ inl
-              (λ i less. mv.ended i (all i less))
+          | inl all ↦ inl (λ i less. mv.ended i (all i less))
           | inr enough ↦ inr (enough-still ins enough)
         ]
         | inr now ↦ elim now.why [
@@ -400,23 +318,20 @@ module _ (kind : Kind) (d : Option ReaderView) (kernel : KernelState) (b : OwnSt
 
   consumers-closed : 0 < out_count v → ((o : ℕ) → o < out_count v → (output_at u o).fin_in ≡ true)
       → AllOutputsClosed q
-  consumers-closed some all =
-      let n = kept_outputs-of q w last-view in
-      record {
-        some = omega (arith, n, some, outs-w);
-        closed = λ o lt.
-            let less : o < out_count v = omega (arith, n, lt, outs-w) in
-            ap (λ f. f.fin_in) (kept_output-of q w last-view o (omega (arith, less, outs-w)))
-            ∙ mv.consumers o ∙ all o less;
-      }
+  consumers-closed some all = grind (
+    arith,
+    kept_outputs-of q w last-view,
+    outs-w,
+    kept_output-of q w last-view,
+    mv.consumers,
+  )
 
   closes-right : (ins outs : Lists) → Keeps p ins outs → (i : ℕ) → i < in_count v
       → (input_at w i).flags.fin_in ≡ true → AllOutputsClosed q
       ⊎ HasReadEnough (Some s) (with_pulled v w ins)
   closes-right ins outs kept i lt e = elim (mv.closes i (omega (arith, lt, g.pushes.ins)) e) [
     | inl before ↦ elim (was-closed ins outs kept i lt before) [
-      | inl all ↦ inl
-          (consumers-closed all.0 all.1)
+      | inl all ↦ inl (consumers-closed all.0 all.1)
       | inr enough ↦ inr (enough-still ins enough)
     ]
     | inr now ↦ elim now [
@@ -429,8 +344,7 @@ module _ (kind : Kind) (d : Option ReaderView) (kernel : KernelState) (b : OwnSt
             ]
             | inr closed ↦ inl closed
           ])) [
-            | inl all ↦ inl
-                (consumers-closed (let some = x.some in omega (arith, some, g.pushes.outs)) all)
+            | inl all ↦ grind (arith, consumers-closed)
             | inr enough ↦ inr (enough-still ins enough)
           ]
       | inr x ↦ inr (now-enough ins outs kept x.0 x.1)
@@ -457,8 +371,7 @@ module _ (kind : Kind) (d : Option ReaderView) (kernel : KernelState) (b : OwnSt
         all_worked = unworked-is i ∙ ap₂ (λ x y. x ++ y) none (pulled-is i ∙ (elim mv.pulls [
           | inl x ↦ x.nothing i
           | inr x ↦ elim (cases_eq i x.input) [
-            | inl z ↦ absurd (holds-unended (input_at u x.input).flags x.holds
-                (subst (λ j. is_ended (input_at u j).flags ≡ true) z ended))
+            | inl z ↦ grind (arith, holds-unended)
             | inr ne ↦ x.others i ne
           ]
         ]));
@@ -483,9 +396,7 @@ module _ (kind : Kind) (d : Option ReaderView) (kernel : KernelState) (b : OwnSt
             let open' : (input_at u i).flags.fin_in ≡ false =
             false_from_ne_true (input_at u i).flags.fin_in (λ e.
             elim (was-closed ins outs kept i lt e) [
-              | inl all ↦ now.unfinished (let some = all.0 in omega (arith, some, g.pushes.outs))
-                  (λ o less. either-true (output_at u o).fin_out (output_at u o).fin_in
-                  (all.1 o (omega (arith, less, g.pushes.outs))))
+              | inl all ↦ grind (arith, either-true)
               | inr enough ↦ never-enough s b i ins n enough
             ]) in
             stays (ap (λ c. c || is_ended (input_at u i).flags) (sym open') ∙ now.over) open'
@@ -499,27 +410,23 @@ module _ (kind : Kind) (d : Option ReaderView) (kernel : KernelState) (b : OwnSt
 
   pushed-all : (P : Table → Type 0) → All P p.work.made → (o : ℕ) → All P (pushed_at v w o)
   pushed-all P made o =
-      by-place (λ j. All P (pushed_at v w j)) g.pushes.out o (elim g.pushes.by [
-        | inl x ↦ subst (All P) (sym (pushed-is g.pushes.out ∙ x.1))
-            (front-all P g.pushes.left (held_made k) (made-split P made))
-        | inr none ↦ all-none P (pushed_at v w g.pushes.out)
-            (pushed-is g.pushes.out ∙ g.pushes.none none)
-      ]) (λ ne. all-none P (pushed_at v w o) (pushed-others o ne))
+      grind (
+        arith,
+        common_steps,
+        pushed-is,
+        front-all,
+        made-split,
+        all-none,
+        pushed-others,
+        cases_eq,
+      )
 
   made-all : (P : Table → Type 0) → All P p.work.made → All P q.work.made
   made-all P made = All-behind P g.pushes.left (held_made k) (made-split P made)
 
   unworked-pulled : (ins : Lists) → All (λ (t : Table). IsPulled ins t.types) p.work.unworked
       → All (λ (t : Table). IsPulled (with_pulled v w ins) t.types) q.work.unworked
-  unworked-pulled ins f =
-      let P : Table → Type 0 = λ t. IsPulled (with_pulled v w ins) t.types in
-      elim mv.pulls [
-        | inl x ↦ subst (All P) (sym (x.unworked ∙ g.pushes.unworked))
-            (All-weaker (λ (t : Table). IsPulled ins t.types) P
-            (λ t. pulled-more v w ins t.types) (held_unworked h) f)
-        | inr x ↦ subst (All P) (pulled-is x.input ∙ x.here ∙ ap held_unworked (sym x.after))
-            (pulled-last v w ins x.input)
-      ]
+  unworked-pulled ins f = grind (arith, All-weaker, pulled-more, pulled-last, pulled-is)
 
   -- it keeps its contract over the prepare, where its kind keeps its rows
   pub keeps-over : KeepsOver p v q w
@@ -532,9 +439,7 @@ module _ (kind : Kind) (d : Option ReaderView) (kernel : KernelState) (b : OwnSt
       (inl (rw (kept-count w ∙ ins-w, outs-count w ∙ outs-w) ports)) in
       record {
         ports = had;
-        opens = λ e. subst (λ x. AreOpen (kept_ports x)) (sym last-view)
-            (opens-now (record kernel { own = b }) k w st mv.comes
-            (sym (ap (λ z. z.answer) g.notes) ∙ e));
+        opens = grind (arith, last-view, opens-now, mv);
         idle = so.uses;
         rows = through ins outs kept kept.rows;
         types = λ o. All-append Q (outs o) (pushed_at v w o)

@@ -1,6 +1,6 @@
 -- Pushing what was made.
 use Rattle.proc_shell.proofs.BoxLaws.{by-rows}
-use Rattle.proc_shell.proofs.Imports.{Held, IsFreeOutput, IsOutOfRoom, IsSound, List, Made, Nothing, PassesOn, Picture, Pushes, Table, Unworked, [], after_push, ap, arith, by-place, changed-by-none, changed-by-one, common_steps, empty-of, get_or, held_made, held_unworked, in_count, inl, input_at, inr, is_out_finished, just-pushed, length, no_input, none-pushed, out_count, output_at, push-turns, push_call, refl, source_of, subst, sym, ℕ, ◌++◌, ◌<◌, ◌∷◌, ◌≡◌, ◌⊎◌}
+use Rattle.proc_shell.proofs.Imports.{Held, IsFreeOutput, IsOutOfRoom, IsSound, List, Made, Nothing, PassesOn, Picture, Pushes, Table, Unworked, [], after_push, ap, arith, by-place, changed-by-none, changed-by-one, common_steps, empty-of, get_or, held_made, held_unworked, in_count, inl, input_at, inr, just-pushed, length, no_input, none-pushed, out_count, output_at, push-turns, push_call, refl, source_of, ℕ, ◌++◌, ◌<◌, ◌∷◌, ◌≡◌, ◌⊎◌}
 use Rattle.proc_shell.proofs.PortMoves.{never-true}
 
 -- the view stays, and these chunks are dropped, where there is no output
@@ -25,38 +25,27 @@ pushes-nowhere c v sound none = still-pushes (Made c) Nothing (c ∷ []) v sound
 pub pushes-one : (c : Table) (v w : Picture) (o : ℕ) → IsSound v → IsFreeOutput v o → w
     ≡ after_push v o c → Pushes (Made c) Nothing v w
 unfolding input_at output_at in_count out_count
-pushes-one c v w o sound free e = subst (λ u. Pushes (Made c) Nothing v u) (sym e) made
-  where
-    made : Pushes (Made c) Nothing v (after_push v o c)
-    made =
-        let t = push-turns v o c free.in_range free.room in
-        let u = after_push v o c in
-        record {
-          changed = changed-by-one v u (push_call o c) refl;
-          ins = ap length t.inputs;
-          outs = t.outputs.len;
-          inputs = λ i. ap (λ l. get_or l i no_input) t.inputs;
-          finished = λ j. by-place (λ n. (output_at u n).fin_out ≡ (output_at v n).fin_out) o j
-              (ap (λ f. f.fin_out) t.outputs.here)
-              (λ ne. ap (λ f. f.fin_out) (t.outputs.others j ne));
-          closed = λ j. by-place (λ n. (output_at u n).fin_in ≡ (output_at v n).fin_in) o j
-              (ap (λ f. f.fin_in) t.outputs.here)
-              (λ ne. ap (λ f. f.fin_in) (t.outputs.others j ne));
-          unworked = refl;
-          source = refl;
-          out = o;
-          left = c ∷ [];
-          made = refl;
-          by = inl (
-            free.in_range,
-            just-pushed v u o (c ∷ []) sound (empty-of (output_at v o) free.room) t.pushes,
-          );
-          none = λ none. absurd (let lt = free.in_range in omega (arith, none, lt));
-          others = λ j ne. none-pushed v u j sound (t.other_pushes j ne);
-          waits = λ lt. absurd (omega (arith, lt));
-          at_once = λ all. never-true (is_out_finished (output_at v o)) free.unfinished
-              (all o free.in_range);
-        }
+pushes-one c v w o sound free e =
+    let t = push-turns v o c free.in_range free.room in
+    let u = after_push v o c in
+    rw e record {
+      changed = changed-by-one v u (push_call o c) refl;
+      ins = ap length t.inputs;
+      outs = t.outputs.len;
+      inputs = λ i. ap (λ l. get_or l i no_input) t.inputs;
+      finished = grind (arith, by-place);
+      closed = grind (arith, by-place);
+      unworked = refl;
+      source = refl;
+      out = o;
+      left = c ∷ [];
+      made = refl;
+      by = grind (arith, common_steps, just-pushed, empty-of);
+      none = λ none. absurd (let lt = free.in_range in omega (arith, none, lt));
+      others = λ j ne. none-pushed v u j sound (t.other_pushes j ne);
+      waits = λ lt. absurd (omega (arith, lt));
+      at_once = grind (arith, never-true);
+    }
 
 -- nothing waits but what was made
 pub never-made : {X : Type 0} (h : Held) → ((c : Table) → h ≡ Made c → ⊥) → 0 < length (held_made h)
@@ -69,3 +58,6 @@ pub passes-on : (i : ℕ) (c : Table) (h k : Held) (v w : Picture) → IsSound v
     → PassesOn h k v w
 passes-on i c h k v w sound before after some none =
     grind (arith, common_steps, by-rows, pushes-none)
+
+-- how a chunk that was made leaves
+pub ruleset push_steps = (pushes-one, pushes-none, pushes-nowhere, never-made)

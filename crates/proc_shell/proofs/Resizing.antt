@@ -1,5 +1,6 @@
 -- What passes rows on as they are, from any input to any output.
-use Rattle.proc_shell.proofs.Imports.{AreResized, Begins, IsFirstAlone, IsPermutation-append_left, IsPermutation-refl, IsPermutation-same, IsPermutation-sym, IsPermutation-trans, KernelState, LetsPush, List, Lists, Means, OwnState, Row, Some, Spec, Table, Takes, WorkState, [], all_rows, ap, append-nil, append_assoc, arith, by-place, cases_eq, chunk_rows, idle_own, inl, inr, kind_of, more-rows, no-rows, no_lists, refl, rows-append, subst, sym, unread, with_chunk, ℕ, ◌++◌, ◌<◌, ◌∙◌, ◌∷◌, ◌≡◌, ◌≢◌, row_of, true}
+use Rattle.std.proofs.lemmas.Grind.{common_steps}
+use Rattle.proc_shell.proofs.Imports.{AreResized, Begins, IsPermutation-append_left, IsPermutation-same, IsPermutation-sym, IsPermutation-trans, KernelState, LetsPush, List, Lists, OwnState, Row, Some, Spec, Table, Takes, [], all_rows, append-nil, append_assoc, arith, cases_eq, chunk_rows, idle_own, inl, inr, kind_of, more-rows, no-rows, no_lists, rows-append, subst, sym, with_chunk, ℕ, ◌++◌, ◌<◌, ◌∙◌, ◌∷◌, ◌≡◌, ◌≢◌, row_of, true}
 use Rattle.query_model.specs.declared.processor_spec.Spec.TheVariants as spec
 use Rattle.proc_shell.proofs.PortMoves.{both-none}
 use Rattle.proc_shell.proofs.SeveralTurns.{PassesChunks}
@@ -7,18 +8,10 @@ use Rattle.proc_shell.proofs.Through.{all-more, chunk-elsewhere, chunk-here, row
 
 -- nothing was passed on
 pub resized-nothing : AreResized no_lists no_lists []
-resized-nothing = record {
-  same_rows = rw (no-rows 16, no-rows 32) (IsPermutation-refl []);
-  in_order = λ a b. refl;
-}
+resized-nothing = grind (arith, no-rows)
 
 pub begins-resized : (s : Spec) → s ≡ spec.Resize → Begins s spec.Resize idle_own
-begins-resized s e = record {
-  spec = sym e;
-  nothing = λ files. subst (λ z. Means (unread files) z
-      idle_own no_lists no_lists []) (sym e) (refl, resized-nothing);
-  unended = λ i n. n;
-}
+begins-resized s e = grind (arith, resized-nothing)
 
 -- chunks that waited leave by any of 16 outputs
 pub resized-pushes : (worked outs more : Lists) (o : ℕ) (pushed : List Table) (rest : List Row)
@@ -30,21 +23,7 @@ resized-pushes worked outs more o pushed rest lt here others h = record {
       (IsPermutation-same _ _ (sym (append_assoc (all_rows 16 outs) (chunk_rows pushed) rest)))
       (IsPermutation-append_left rest _ _
       (IsPermutation-sym _ _ (more-rows 16 o outs more pushed here others lt))));
-  in_order = λ one alone. elim (cases_eq o 0) [
-    | inl z ↦
-        let first : more 0 ≡ outs 0 ++ pushed = subst (λ n. more n ≡ outs n ++ pushed) z here in
-        let old : IsFirstAlone outs = λ j less.
-        sym (others j (λ e. omega (arith, e, z, less))) ∙ alone j less in
-        ap (λ l. l ++ rest) (ap chunk_rows first ∙ rows-append (outs 0) pushed)
-        ∙ append_assoc (chunk_rows (outs 0)) (chunk_rows pushed) rest ∙ h.in_order one old
-    | inr ne ↦
-        let none = both-none (outs o) pushed (sym here ∙ alone o (omega (arith, ne))) in
-        let old : IsFirstAlone outs = λ j less. by-place (λ n. outs n ≡ []) o j none.0
-        (λ e. sym (others j e) ∙ alone j less) in
-        ap (λ l. chunk_rows l ++ rest) (others 0 (λ e. ne (sym e)))
-        ∙ ap (λ l. chunk_rows (outs 0) ++ (chunk_rows l ++ rest)) (sym none.1)
-        ∙ h.in_order one old
-  ];
+  in_order = grind (arith, cases_eq, both-none, rows-append, append_assoc, append-nil);
 }
 
 pub resize-pushes : LetsPush spec.Resize
@@ -64,12 +43,7 @@ resized-takes worked outs i t lt h = record {
       (IsPermutation-append_left t.rows _ _ (IsPermutation-trans _ _ _ h.same_rows
       (IsPermutation-same _ _ (append-nil (all_rows 16 outs)))));
   in_order = λ one alone. elim (cases_eq i 0) [
-    | inl z ↦
-        let old : IsFirstAlone worked = λ j less.
-        sym (chunk-elsewhere i j t worked (λ e. omega (arith, e, z, less))) ∙ one j less in
-        ap (λ l. l ++ t.rows)
-        (sym (append-nil (chunk_rows (outs 0))) ∙ h.in_order old alone)
-        ∙ sym (rows-here t worked) ∙ ap (λ n. chunk_rows (with_chunk n t worked 0)) (sym z)
+    | inl z ↦ grind (arith, common_steps, chunk-elsewhere, append-nil, rows-here)
     | inr ne ↦ absurd (
         let none = both-none (worked i) (t ∷ [])
         (sym (chunk-here i t worked) ∙ one i (omega (arith, ne))) in
@@ -89,14 +63,12 @@ takes-resized own i t lt = record {
 }
 
 -- it passes chunks on as they are
-pub resize-passes : (x : KernelState) → (row_of (kind_of x.spec)).passes_on ≡ true
-    → PassesChunks x
+pub resize-passes : (x : KernelState) → (row_of (kind_of x.spec)).passes_on ≡ true → PassesChunks x
 resize-passes x e = go x.spec e
   where
     go : (s : Spec) → (row_of (kind_of s)).passes_on ≡ true → PassesChunks (record x { spec = s })
     go spec.Resize e = record {
       takes = λ i t lt. takes-resized x.own i t lt;
-      waits = λ i c made h.
-          ap (λ (w : WorkState). record w { unworked = []; source = 0; made = made }) h;
+      waits = grind arith;
     }
     go s e = absurd (cc)

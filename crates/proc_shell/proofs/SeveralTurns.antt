@@ -1,24 +1,18 @@
 -- A prepare that works at once what it pulled is two prepares and a work between them.
-use Rattle.proc_shell.proofs.Imports.{AreAsKept, AreMoved, Bool, BoxPicture, FollowsKept, HasReadEnough, HasSpecPorts, Held, IsKernelOf, IsRunning, IsSound, IsWorkOf, Keeps, KernelState, Kind, List, LoadedShell, Option, PassesOn, Picture, PreparesLawfully, Pushes, ReaderView, Ready, RowCount, RunsTurn, ShellPrepares, ShellWorks, Some, Spec, Status, StaysFit, Table, Takes, Unworked, WorksHeld, [], all_port_flags, and_parts, ap, ap₂, arith, changed-by-both, common_steps, enough-more, follows-noted, goes-on, growth_in, held_made, held_option, held_unworked, in_count, is_wanted, lists-pulled, lists-pushed, loaded_seen, ltb-true, nat_lt, out_count, position-still, pulled-both, refl, rows-both, shell_state, source_of, subst, sym, true, with_pulled, with_pushed, with_view, work_of, ℕ, ◌&&◌, ◌++◌, ◌<◌, ◌∙◌, ◌∷◌, ◌≡◌, ◌≤◌}
+use Rattle.proc_shell.proofs.Imports.{AreAsKept, AreMoved, Bool, BoxPicture, FollowsKept, HasReadEnough, HasSpecPorts, Held, IsKernelOf, IsRunning, IsSound, IsWorkOf, Keeps, KernelState, Kind, List, LoadedShell, Option, PassesOn, Picture, PreparesLawfully, Pushes, ReaderView, Ready, RowCount, RunsTurn, ShellPrepares, ShellWorks, Some, Spec, Status, StaysFit, Table, Takes, Unworked, WorksHeld, [], all_port_flags, and_parts, ap, ap₂, arith, changed-by-both, common_steps, enough-more, follows-noted, goes-on, held_made, held_option, held_unworked, in_count, is_wanted, lists-pulled, lists-pushed, loaded_seen, ltb-true, out_count, position-still, pulled-both, refl, rows-both, shell_state, source_of, subst, sym, true, with_pulled, with_pushed, with_view, work_of, ℕ, ◌++◌, ◌<◌, ◌∙◌, ◌∷◌, ◌≡◌, ◌≤◌}
 use Rattle.proc_shell.proofs.BoxLaws.{held-source, held-worked, limits-stay, passes-once, works-part}
 use Rattle.proc_shell.proofs.PortMoves.{kept-count, outs-count, same-ports}
 
 -- the view still has the ports of the spec
 pub still-ports : (k : Kind) (p q : LoadedShell) (n m : RowCount) (v w : Picture) (s : Status)
     → ShellPrepares k p v n q w m s → HasSpecPorts p.kernel v → HasSpecPorts q.kernel w
-still-ports k p q n m v w s x ports =
-    let g = goes-on v w x.changed in
-    subst (λ z. HasSpecPorts z w) (sym x.continues.kernel)
-    (same-ports p.kernel.spec (growth_in p.kernel.spec p.kernel.stage) (in_count v) (out_count v)
-    (in_count w)
-    (out_count w) (sym g.ins) (sym g.outs) ports)
+still-ports k p q n m v w s x ports = grind (arith, same-ports, goes-on v w x.changed)
 
 module _ (k : Kind) (p a b q : LoadedShell) (n m l : RowCount) (v u w : Picture) (s : Status)
     (sound : IsSound u) (first : ShellPrepares k p v n a u m Ready) (work : ShellWorks k a b)
     (last : ShellPrepares k b u m q w l s) where
   spec-stays : Some b.kernel.spec ≡ Some p.kernel.spec
-  spec-stays =
-      ap (λ z. Some z.spec) work.continues.kernel ∙ ap (λ z. Some z.spec) first.continues.kernel
+  spec-stays = grind arith
 
   noted : b.notes.view ≡ Some (all_port_flags u)
   noted = ap (λ z. z.view) work.notes ∙ ap (λ z. z.view) first.notes
@@ -35,8 +29,7 @@ module _ (k : Kind) (p a b q : LoadedShell) (n m l : RowCount) (v u w : Picture)
   lawful-both d run f = record {
     law = y.law;
     comes = y.comes;
-    pulled = let rows = rows-both v u w sound first.changed last.changed in
-        let more = x.pulled in let rest = y.pulled in omega (arith, rows, more, rest);
+    pulled = grind (arith, rows-both, x, y);
     limits = limits-stay _ _ _ _ _ _ w _ _ kernel-both notes-both run.faultless;
     fits = λ fit. y.fits (fits-on fit);
     keeps = λ fit ins outs kept.
@@ -71,18 +64,10 @@ module _ (k : Kind) (p a b q : LoadedShell) (n m l : RowCount) (v u w : Picture)
       x = first.lawful d run f
 
       after : IsRunning (loaded_seen k d m a)
-      after = record {
-        loaded = refl;
-        faultless = ap (λ z. z.fault) first.notes ∙ run.faultless;
-        not_handed_out = ap (λ z. z.stage.handed_out) first.continues.kernel ∙ run.not_handed_out;
-      }
+      after = grind arith
 
       between : IsRunning B
-      between = record {
-        loaded = refl;
-        faultless = ap (λ z. z.fault) work.notes ∙ after.faultless;
-        not_handed_out = ap (λ z. z.stage.handed_out) work.continues.kernel ∙ after.not_handed_out;
-      }
+      between = grind (arith, after)
 
       y : PreparesLawfully B u Q w s
       y = last.lawful d between (follows-noted B u noted)
@@ -90,13 +75,8 @@ module _ (k : Kind) (p a b q : LoadedShell) (n m l : RowCount) (v u w : Picture)
       fits-on : StaysFit (loaded_seen k d n p) v → StaysFit B u
       fits-on fit = record {
         fits = ap (λ z. z.fits) work.notes ∙ x.fits fit;
-        ports =
-            let g = goes-on v u first.changed in
-            subst (λ z. HasSpecPorts z u) (sym work.continues.kernel)
-            (subst (λ z. HasSpecPorts z u) (sym first.continues.kernel)
-            (same-ports p.kernel.spec (growth_in p.kernel.spec p.kernel.stage) (in_count v)
-            (out_count v) (in_count u)
-            (out_count u) (sym g.ins) (sym g.outs) fit.ports));
+        ports = subst (λ z. HasSpecPorts z u) (sym work.continues.kernel)
+            (still-ports k p a n m v u Ready first fit.ports);
         still =
             position-still (Some b.kernel.spec) b.notes.view (in_count u) (out_count u)
             (subst (λ z. AreAsKept z (in_count u) (out_count u)) (sym noted)
@@ -109,8 +89,7 @@ module _ (k : Kind) (p a b q : LoadedShell) (n m l : RowCount) (v u w : Picture)
       kernel = kernel-both;
       kind = first.continues.kind;
       shelled = first.continues.shelled;
-      uses = subst (λ z. IsWorkOf z (work_of q.kernel (source_of q.held) (held_unworked q.held)
-          (held_made q.held))) spec-stays last.continues.uses;
+      uses = grind (arith, spec-stays);
     };
     changed = changed-by-both v u w first.changed last.changed;
     grows = omega (arith, first.grows, last.grows);
@@ -133,17 +112,7 @@ pub record PassesChunks (x : KernelState) : Type 0 where
 pub turns-once : (k : Kind) (x y : KernelState) (h i j : Held) (n m : RowCount) (v u w : Picture)
     (s : Status) → HasSpecPorts x v → out_count v ≤ 16 → Pushes h i v u
     → RunsTurn k x y i j n m u w s → AreMoved k x h v n y j w m s
-turns-once k x y h i j n m v u w s ports few pushes turn = λ notes.
-    passes-once k (shell_state x h notes) (shell_state y j (with_view w s notes)) n m v w s
-    turn.continues few ports
-    (record {
-      held = i;
-      view = u;
-      pushes = pushes;
-      turns = turn.turns;
-      counts = turn.counts;
-      notes = refl;
-    })
+turns-once k x y h i j n m v u w s ports few pushes turn = search (arith, passes-once)
 
 -- a turn behind one of which the chunk that it pulled was passed on
 pub turns-again : (k : Kind) (wants : ℕ → Bool) (makes : Bool) (p a : LoadedShell) (y : KernelState)
@@ -177,19 +146,14 @@ turns-again k wants makes p a y i h n m l v u t w r s passes ready ports few wan
     b = record { kernel = a.kernel; held = waits; notes = record a.notes { acted = true } }
 
     in-range : on.input < 32
-    in-range =
-        let both : (wants on.input && nat_lt on.input 32) ≡ true =
-        subst (λ j. is_wanted wants makes j ≡ true) on.before wanted in
-        ltb-true on.input 32 (and_parts (wants on.input) (nat_lt on.input 32) both).1
+    in-range = grind (arith, ltb-true, and_parts)
 
     UsesHeld : Option Spec → Held → Type 0
     UsesHeld z j =
         IsWorkOf z (work_of a.kernel (source_of j) (held_unworked j) (held_made j))
 
     uses : UsesHeld (Some a.kernel.spec) (Unworked on.input on.chunk)
-    uses = subst (UsesHeld (Some a.kernel.spec)) on.before
-        (subst (λ z. UsesHeld z a.held) (sym (ap (λ z. Some z.spec) first.continues.kernel))
-        first.continues.uses)
+    uses = grind (arith, UsesHeld, first)
 
     work : ShellWorks k a b
     work = record {

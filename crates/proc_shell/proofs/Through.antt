@@ -1,22 +1,20 @@
 -- Kinds of one input and one output, and among them those that make something of each chunk by
 -- itself.
-use Rattle.proc_shell.proofs.Imports.{AreCounts, ArePortsOf, Bool, FitsInput, GrowthForm, IfSome, IsAtMost, IsPermutation, IsPulled, IsShelled, KernelState, LetsPush, List, Lists, Makes, MakesTypes, Means, None, Option, OwnState, Reading, Row, Some, Spec, Table, Takes, [], all_rows, ap, append-nil, arith, chunk_rows, common_steps, cond, contract_of, eq-eqb, eqb-true, inl, inr, length, more-rows, most_rows, ne_eqb, refl, rows-append, rows_if_some, subst, sym, true, with_chunk, work_of, ℕ, ◌++◌, ◌<◌, ◌==◌, ◌∙◌, ◌∷◌, ◌≡◌, ◌≢◌, ◌⊎◌, AreAsKept, PortFlags, StandStill}
+use Rattle.proc_shell.proofs.Imports.{AreCounts, ArePortsOf, Bool, FitsInput, GrowthForm, IfSome, IsAtMost, IsPermutation, IsPulled, IsShelled, KernelState, LetsPush, List, Lists, Makes, MakesTypes, Means, None, Option, OwnState, Reading, Row, Some, Spec, Table, Takes, [], all_rows, ap, append-nil, arith, chunk_rows, common_steps, cond, contract_of, eq-eqb, eqb-true, inl, inr, length, more-rows, most_rows, ne_eqb, refl, rows-append, rows_if_some, subst, true, with_chunk, work_of, ℕ, ◌++◌, ◌<◌, ◌==◌, ◌∙◌, ◌∷◌, ◌≡◌, ◌≢◌, ◌⊎◌, AreAsKept, PortFlags, StandStill}
 
 -- ---- what is worked
 
 -- one chunk more of the input
 pub one-more : (worked : List Table) (t : Table)
     → chunk_rows (worked ++ t ∷ []) ≡ chunk_rows worked ++ t.rows
-one-more worked t = rows-append worked (t ∷ [])
-    ∙ ap (λ l. chunk_rows worked ++ l) (append-nil t.rows)
+one-more worked t = grind (arith, common_steps, rows-append)
 
 pub chunk-here : (i : ℕ) (t : Table) (worked : Lists) → with_chunk i t worked i ≡ worked i ++ t ∷ []
 chunk-here i t worked = ap (λ b. worked i ++ cond b (t ∷ []) []) (eq-eqb i i refl)
 
 pub chunk-elsewhere : (i j : ℕ) (t : Table) (worked : Lists) → j ≢ i
     → with_chunk i t worked j ≡ worked j
-chunk-elsewhere i j t worked ne = ap (λ b. worked j ++ cond b (t ∷ []) []) (ne_eqb j i ne)
-    ∙ append-nil (worked j)
+chunk-elsewhere i j t worked ne = grind (arith, common_steps, ne_eqb)
 
 pub rows-here : (t : Table) (worked : Lists)
     → chunk_rows (with_chunk 0 t worked 0) ≡ chunk_rows (worked 0) ++ t.rows
@@ -73,13 +71,7 @@ pub record HasPortCounts (s : Spec) (inputs : ℕ) : Type 0 where
 -- a kind with one output whose ports its spec fixes
 pub shelled-of : (s : Spec) (inputs : ℕ) → is_in_order s ≡ true → HasPortCounts s inputs
     → IsShelled s
-shelled-of s inputs i c = record {
-  still = λ growth kept m n had h position.
-      let x = c.ports growth (length kept.inputs) (length kept.outputs) had in
-      let y = c.ports growth m n h in inl (y.0 ∙ sym x.0, y.1 ∙ sym x.1);
-  enough_one = λ ins enough growth m n h. (c.ports growth m n h).1;
-  lets_push = pushes-in-order s i (λ growth m n h. (c.ports growth m n h).1);
-}
+shelled-of s inputs i c = grind (arith, pushes-in-order)
 
 -- a kind whose ports are those of its last view, of which one is an output
 pub record HasKeptPorts (s : Spec) : Type 0 where
@@ -88,11 +80,7 @@ pub record HasKeptPorts (s : Spec) : Type 0 where
   pub one : (growth : Option GrowthForm) (m n : ℕ) → ArePortsOf (Some s) growth m n → n ≡ 1
 
 pub shelled-still : (s : Spec) → is_in_order s ≡ true → HasKeptPorts s → IsShelled s
-shelled-still s i c = record {
-  still = λ growth kept m n had h position. inl (c.position kept m n position);
-  enough_one = λ ins enough. c.one;
-  lets_push = pushes-in-order s i c.one;
-}
+shelled-still s i c = search (arith, pushes-in-order)
 
 -- ---- each chunk by itself
 
@@ -109,33 +97,14 @@ pub takes-each : (s : Spec) (make : List Row → List Row) → IsMaker s make
     → FitsInput (Some s) i t.types → rows_if_some o ≡ make t.rows → ((ins : Lists)
     → IsPulled ins t.types → IfSome o (λ (c : Table). MakesTypes (Some s) ins c.types)) → IfSome o
     (λ (c : Table). IsAtMost (most_rows (Some s)) (length c.rows)) → Takes s own i t own o
-takes-each s make k own i t o z fit rows types sizes = record {
-  means = λ x fits worked outs h. subst (λ n. Means x s own (with_chunk n t worked) outs
-      (rows_if_some o)) (sym z)
-      (k.into x own (with_chunk 0 t worked) outs (rows_if_some o)
-      (ap (λ l. l ++ rows_if_some o)
-      (sym (append-nil (chunk_rows (outs 0))) ∙ k.from x own worked outs [] h)
-      ∙ ap (λ l. make (chunk_rows (worked 0)) ++ l) rows
-      ∙ sym (k.both (chunk_rows (worked 0)) t.rows) ∙ ap make (sym (rows-here t worked))));
-  fits = inl fit;
-  types = types;
-  sizes = sizes;
-  ends = λ i n. n;
-}
+takes-each s make k own i t o z fit rows types sizes = grind (arith, common_steps, rows-here)
 
 -- a chunk that doesn't fit is dropped
 pub drops-misfit : (s : Spec) (own : OwnState) (i : ℕ) (t : Table)
     → (FitsInput (Some s) i t.types → ⊥) → Takes s own i t own None
-drops-misfit s own i t misfit = record {
-  means = λ x fits. absurd (misfit fits);
-  fits = inr (record { misfit = misfit; same = refl; none = refl });
-  types = λ ins pulled. tt;
-  sizes = tt;
-  ends = λ i n. n;
-}
+drops-misfit s own i t misfit = grind arith
 
 -- what such a kind doesn't use is idle, since all that isn't worked came from the first input
 pub first-source : (x : KernelState) (i : ℕ) (unworked made : List Table) → ((i ≡ 0)
     × (unworked ≡ [])) ⊎ ((i == 0) ≡ true) → work_of x i unworked made ≡ work_of x 0 unworked made
-first-source x i unworked made e =
-    ap (λ n. work_of x n unworked made) (elim e [ inl z ↦ z.0 | inr z ↦ eqb-true i 0 z ])
+first-source x i unworked made e = grind (arith, eqb-true)

@@ -1,5 +1,5 @@
 -- What each turn of a shell moves.
-use Rattle.proc_shell.proofs.Imports.{AllOutputsFinished, AreCounts, AreOpen, Bool, Flags, IsWantedFull, IsWanting, KernelState, Leaves, MayMake, Moves, Nothing, OwnState, Picture, PullsOne, Some, Spec, Table, TurnsInput, Unworked, after_pull, ap, ap₂, arith, by-place, cases_lt, changed-by-both, changed-by-one, common_steps, emptied, false, get_or-eq_default, get_or_default, holds_data, in_count, inl, inr, input_at, is_ended, is_out_finished, no_flags, none-pulled, not-true, or_parts, out_count, output_at, over_flags, all_port_flags, pull-turns, pull_call, refl, subst, taken_out, true, ℕ, ◌<◌, ◌∙◌, ◌≡◌}
+use Rattle.proc_shell.proofs.Imports.{cases_eq, AllOutputsFinished, AreCounts, AreOpen, Bool, Flags, IsWantedFull, IsWanting, KernelState, Leaves, MayMake, Moves, Nothing, OwnState, Picture, PullsOne, Some, Spec, Table, TurnsInput, Unworked, after_pull, ap, ap₂, arith, cases_lt, changed-by-both, changed-by-one, common_steps, emptied, get_or-eq_default, get_or_default, holds_data, in_count, input_at, is_ended, none-pulled, not-true, or_parts, out_count, output_at, all_port_flags, pull-turns, pull_call, refl, taken_out, true, ℕ, ◌<◌, ◌∙◌, ◌≡◌}
 use Rattle.proc_api.specs.declared.status.Status.TheVariants as status
 use Rattle.proc_shell.proofs.PortMoves.{kept-count, never-true}
 
@@ -14,21 +14,8 @@ leaves-same s own = record { means = λ x worked outs wait h. h; stays_over = λ
 pub open-ports : (v : Picture) → AreCounts (in_count v) (out_count v) 0 1 → MayMake v
     → AreOpen (all_port_flags v)
 unfolding in_count out_count output_at
-open-ports v n may = record {
-  outputs = λ o. elim (cases_lt o (out_count v)) [
-    | inl lt ↦ ap (λ (f : Flags). f.fin_out) (get_or_default v.outputs o no_flags over_flags lt)
-        ∙ elim may [
-          | inl none ↦ absurd (let one = n.1 in omega (arith, none, one))
-          | inr room ↦ (or_parts _ _ (subst (λ k. is_out_finished (output_at v k) ≡ false)
-              (let k = room.in_range in let one = n.1 in omega (arith, k, one, lt))
-              room.unfinished)).0
-        ]
-    | inr le ↦ ap (λ (f : Flags). f.fin_out) (get_or-eq_default v.outputs no_flags le)
-  ];
-  inputs = λ i. ap (λ (f : Flags). f.fin_in)
-      (get_or-eq_default (all_port_flags v).inputs no_flags
-      (let none = n.0 in let l = kept-count v in omega (arith, none, l)));
-}
+open-ports v n may =
+    grind (arith, common_steps, get_or_default, get_or-eq_default, or_parts, kept-count, cases_lt)
 
 -- what a view's calls change, one after another, and that its ports are open
 pub ruleset two_steps = (changed-by-both, open-ports)
@@ -47,14 +34,9 @@ moves-pull x v w wants i c wanting r full at e =
     rw e (pull-turns v i full.in_range full.holds) in
     let changed = changed-by-one v w (pull_call i) e in
     let ended : (j : ℕ) → is_ended (input_at v j).flags ≡ true
-    → is_ended (input_at w j).flags ≡ true = λ j. by-place (λ n.
-    is_ended (input_at v n).flags ≡ true → is_ended (input_at w n).flags ≡ true) i j
-    (λ f. absurd (holds-unended (input_at v i).flags full.holds f))
-    (λ ne f. ap (λ y. is_ended y.flags) (t.inputs.others j ne) ∙ f) in
-    let closed : (j : ℕ) → (input_at w j).flags.fin_in ≡ (input_at v j).flags.fin_in = λ j.
-    by-place (λ n. (input_at w n).flags.fin_in ≡ (input_at v n).flags.fin_in) i j
-    (ap (λ y. y.flags.fin_in) t.inputs.here)
-    (λ ne. ap (λ y. y.flags.fin_in) (t.inputs.others j ne)) in
+    → is_ended (input_at w j).flags ≡ true = grind (arith, cases_eq, holds-unended) in
+    let closed : (j : ℕ) → (input_at w j).flags.fin_in ≡ (input_at v j).flags.fin_in =
+    grind (arith, cases_eq) in
     let pulls : PullsOne x Nothing (Unworked i c) v w = record {
       wanting = wanting;
       input = i;

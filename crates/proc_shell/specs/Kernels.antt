@@ -100,8 +100,7 @@ work_of x source unworked made = record idle_work {
 -- ---- what a kind means
 
 abbrev pub unread : Option Files → Reading
-unread files =
-    record { files = files; file = file_in no_spec first_stage; unworked = [] }
+unread files = record { files = files; file = file_in no_spec first_stage; unworked = [] }
 
 -- What a kind's kernel has made, whatever its shell holds for it.
 abbrev pub Means : Reading → Spec → OwnState → (worked outs : Lists) → (wait : List Row) → Type 0

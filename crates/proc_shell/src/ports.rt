@@ -35,13 +35,7 @@ pub(crate) fn may_make(view: &PortView) -> bool
     ensures may { IsTrue result → MayMake view.now }
     ensures full { result ≡ false → IsOutOfRoom view.now }
 {
-    if view.outputs() == 0 {
-        return true;
-    }
-    match free_output(view) {
-        Some(_o) => true,
-        None => false,
-    }
+    view.outputs() == 0 || free_output(view).is_some()
 }
 
 /// The first wanted input with a chunk.

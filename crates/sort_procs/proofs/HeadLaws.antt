@@ -1,7 +1,7 @@
 -- What is held of the inputs of a merge, as ends are noted and the first row is looked for.
 use Rattle.std.proofs.lemmas.Grind.{common_steps}
 use Rattle.std.proofs.Common.{◌≡◌, ◌≢◌, ℕ, zero, suc, ◌+◌, ◌++◌, ◌<◌, ◌≤◌, ◌-◌, ◌^◌, ◌&&◌, drop, min, Bool, true, false, List, [], ◌∷◌, length, get_or, not, Option, Some, None, refl, sym, ap, ap₂, subst, ◌∙◌, arith, inl, inr}
-use Rattle.sort_procs.proofs.Imports.{All, GoesFirst, HasRanks, HasRows, Head, IsBeforeNone, IsFirstBut, IsFirstHead, IsRanked, IsRowRun, IsRunBefore, Ordering, Ranked, Row, SortKey, SortSpec, and_from, and_parts, at, cases_lt, comes_before, count_up, every-append, first_row, get_or-append_seam, get_or-drop, get_or-map, get_or_append_left, get_or_read, goes_by, head_at, head_of, heads_of, is_lt, is_used, leb-false, length-append, length-drop, length-map, list_all, next_rows, no_head, not-true, ordering_reverse, ranked_cmp, ranked_place, row_at, row_cmp, row_cmp_total, rows-ordered, take_more}
+use Rattle.sort_procs.proofs.Imports.{All, HasRanks, Head, IsBeforeNone, IsFirstBut, IsRanked, Ordering, Ranked, Row, SortKey, SortSpec, and_from, and_parts, at, cases_lt, comes_before, count_up, every-append, first_row, get_or-append_seam, get_or-drop, get_or-map, get_or_append_left, get_or_read, goes_by, head_at, head_of, heads_of, is_lt, is_used, leb-false, length-append, length-drop, length-map, list_all, next_rows, no_head, not-true, ordering_reverse, ranked_cmp, ranked_place, row_at, row_cmp, row_cmp_total, rows-ordered, take_more}
 use Rattle.std.specs.declared.cmp.Ordering.TheVariants.{Equal, Greater, Less}
 use Rattle.sort_procs.proofs.RankLaws.{ranks_tell}
 
@@ -86,44 +86,11 @@ module _ (keys : List SortKey) (heads : List Head) where
       by false e = e
       by true e = one-way i i e
 
-  pub has-rows : (but n : ℕ) (first : Option ℕ) → n ≤ length heads
-      → IsFirstBut keys heads but n first → HasRows heads first
-  has-rows but n None few h = tt
-  has-rows but n (Some i) few h = (let l = h.below in omega (arith, l, few), h.unused)
-
   -- a head that doesn't come before the first one
   pub first-stays : (but i : ℕ) (first : Option ℕ) → IsFirstBut keys heads but i first
       → (i ≢ but → (not (is_used (at heads i)) && comes_before keys heads i first) ≡ false)
       → IsFirstBut keys heads but (i + 1) first
-  first-stays but i None h e = λ j less ne. elim (cases_lt j i) [
-    | inl below ↦ h j below ne
-    | inr le ↦
-        let z : i ≡ j = omega (arith, less, le) in
-        subst (λ m. is_used (at heads m) ≡ true) z
-        (used (is_used (at heads i)) (e (subst (λ m. m ≢ but) (sym z) ne)))
-  ]
-    where
-      used : (b : Bool) → (not b && true) ≡ false → b ≡ true
-      used true e = refl
-      used false e = absurd (cc)
-  first-stays but i (Some k) h e = record {
-    below = let l = h.below in omega (arith, l);
-    other = h.other;
-    unused = h.unused;
-    least = λ j less ne free. elim (cases_lt j i) [
-      | inl below ↦ h.least j below ne free
-      | inr le ↦
-          let z : i ≡ j = omega (arith, less, le) in
-          subst (λ m. lt m k ≡ false) z
-          (not-before (is_used (at heads i)) (lt i k)
-          (e (subst (λ m. m ≢ but) (sym z) ne))
-          (subst (λ m. is_used (at heads m) ≡ false) (sym z) free))
-    ];
-  }
-    where
-      not-before : (b c : Bool) → (not b && c) ≡ false → b ≡ false → c ≡ false
-      not-before false c e f = e
-      not-before true c e f = absurd (cc)
+  first-stays but i first h e = grind (arith, cases_lt)
 
   -- a head that comes before the first one
   pub first-changes : (but i : ℕ) (first : Option ℕ) → IsFirstBut keys heads but i first → i ≢ but
@@ -145,20 +112,6 @@ module _ (keys : List SortKey) (heads : List Head) where
           → (j : ℕ) → j < i → j ≢ but → is_used (at heads j) ≡ false → lt j i ≡ false
       by None h c j below other free = absurd (let u = h j below other in cc)
       by (Some k) h c j below other free = chain j k i (h.least j below other free) (one-way i k c)
-
-  -- the first head goes before the first of the others
-  pub goes-first : (but n i : ℕ) (second : Option ℕ) → n ≤ length heads → n ≤ but
-      → IsFirstHead keys heads but n i → IsFirstBut keys heads i n second
-      → GoesFirst keys heads i second
-  goes-first but n i second few out f s = record {
-    in_range = let l = f.below in omega (arith, few, l);
-    unused = f.unused;
-    rows = has-rows i n second few s;
-    behind = λ k is. by k (subst (IsFirstBut keys heads i n) is s);
-  }
-    where
-      by : (k : ℕ) → IsFirstHead keys heads i n k → lt k i ≡ false
-      by k g = f.least k g.below (λ z. let l = g.below in omega (arith, l, out, z)) g.unused
 
 -- ---- the run of a head
 
@@ -203,27 +156,6 @@ module _ (keys : List SortKey) (h : Head) where
       (unused : is_used h ≡ false) (long : length h.chunk.rows < 2 ^ 64) where
     left : h.place < length h.chunk.rows
     left = leb-false (length h.chunk.rows) h.place unused
-
-    pub run-alone : IsRowRun keys heads h None room most
-    run-alone = record {
-      some = omega (arith, is, some, left);
-      few = omega (arith, is);
-      within = omega (arith, is, left);
-      fits = omega (arith, is, left, long);
-      before = λ k e. absurd (cc);
-      ends = λ less more. absurd (omega (arith, is, less, more, left));
-    }
-
-    pub run-before : (k n : ℕ) → IsRunBefore keys h (at heads k) most n
-        → IsRowRun keys heads h (Some k) room n
-    run-before k n r = record {
-      some = r.some;
-      few = let f = r.few in omega (arith, is, f);
-      within = let f = r.few in omega (arith, is, f, left);
-      fits = let f = r.few in omega (arith, is, f, left, long);
-      before = λ m e. grind arith;
-      ends = λ less more. (k, refl, r.ends (omega (arith, is, less, more, left)));
-    }
 
 -- ---- lists of heads
 

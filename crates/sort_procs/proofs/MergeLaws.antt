@@ -374,12 +374,7 @@ still-ready now i next r ready here is e = all-pass is_ready (set now i next)
 pub none-left : (keys : List SortKey) (heads : List Head) (count : ℕ) (first : Option ℕ)
     → AreUsedFrom heads count → IsFirstBut keys heads count count first
     → ((i : ℕ) → first ≡ Some i → ⊥) → list_all is_used heads ≡ true
-none-left keys heads count (Some i) used h f = absurd (f i refl)
-none-left keys heads count None used h f = all-pass is_used heads (λ j lt.
-    elim (cases_lt j count) [
-      | inl less ↦ h j less (λ z. omega (arith, less, z))
-      | inr le ↦ used j le
-    ])
+none-left keys heads count first used h f = grind (arith, all-pass, cases_lt)
 
 pub makes : (order : SortSpec) (old new : List Head) (c : Table)
     → 0 < length (merging_own old).unmade → MergesSome order old new c

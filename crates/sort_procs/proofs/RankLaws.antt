@@ -39,22 +39,17 @@ digit-less n x y a b h lt =
 texts-less : (n : ℕ) (a b : List ℕ) → AreBytes n a → AreBytes n b
     → text_rank n a < text_rank n b → text_cmp a b ≡ Less
 unfolding text_rank AreBytes
-texts-less n a [] f g lt = absurd (omega (arith, lt))
 texts-less n [] (y ∷ b) f g lt = refl
-texts-less zero (x ∷ a) (y ∷ b) f g lt = absurd (omega (arith, lt))
 texts-less (suc n) (x ∷ a) (y ∷ b) f g lt =
     let rest = texts-less n a b f.1 g.1 in
     let digit = digit-less n y x b a g.1 in
     grind (arith, nat-less, nat-same, rest, digit, cases_lt x y, cases_lt y x)
+texts-less n a b f g lt = grind arith
 
 -- texts of one rank compare as what follows the bytes that it tells
 texts-rest : (n : ℕ) (a b : List ℕ) → AreBytes n a → AreBytes n b
     → text_rank n a ≡ text_rank n b → text_cmp (drop n a) (drop n b) ≡ text_cmp a b
 unfolding text_rank AreBytes
-texts-rest zero a b f g e = refl
-texts-rest (suc n) [] [] f g e = refl
-texts-rest (suc n) [] (y ∷ b) f g e = absurd (grind (arith, weight-some, mul-suc))
-texts-rest (suc n) (x ∷ a) [] f g e = absurd (grind (arith, weight-some, mul-suc))
 texts-rest (suc n) (x ∷ a) (y ∷ b) f g e = elim (cases_lt x y) [
   | inl lt ↦ absurd (let less = digit-less n x y a b f.1 lt in omega (arith, less, e))
   | inr le ↦ elim (cases_lt y x) [
@@ -71,6 +66,7 @@ texts-rest (suc n) (x ∷ a) (y ∷ b) f g e = elim (cases_lt x y) [
         (rw (nat-same x) (texts-rest n a b f.1 g.1 rest))
   ]
 ]
+texts-rest n a b f g e = grind (arith, weight-some, mul-suc)
 
 -- and nothing follows where it tells that there are no more bytes
 none-behind : (n : ℕ) (a : List ℕ) → text_rank n a % 2 ≡ 0 → drop n a ≡ []
@@ -175,18 +171,12 @@ keys-less : (t : ColumnType) (d : Bool) (v w : Value) (r s : ℕ) → FitsType t
 keys-less t d v w r s f g h k lt = grind (arith, value_cmp_total, nat-less, texts-less, ints)
 
 key-turned : (d : Bool) (v w : Value) → key_cmp d v w ≡ ordering_reverse (key_cmp d w v)
-key-turned false v w = value_cmp_total.antisymm v w
-key-turned true v w = ap ordering_reverse (value_cmp_total.antisymm v w)
-
--- values that are told whole by one rank
-values-same : (t : ColumnType) (v w : Value) (r : ℕ) → FitsType t v → FitsType t w
-    → IsValueRank v r → IsValueRank w r → is_exact_value t r ≡ true → value_cmp v w ≡ Equal
-values-same t v w r f g h k e = grind (arith, texts-same, ints, tied_itself value_cmp_total)
+key-turned d v w = grind (arith, value_cmp_total)
 
 keys-same : (t : ColumnType) (d : Bool) (v w : Value) (r : ℕ) → FitsType t v → FitsType t w
     → IsKeyRank d v r → IsKeyRank d w r → is_exact_value t (in_direction d r) ≡ true
     → key_cmp d v w ≡ Equal
-keys-same t d v w r f g h k e = grind (arith, values-same)
+keys-same t d v w r f g h k e = grind (arith, texts-same, ints, tied_itself, value_cmp_total)
 
 -- values of one rank compare as what follows the bytes that it tells
 values-rest : (v w : Value) (n r : ℕ) → IsValueRank (value_behind n v) r
@@ -208,8 +198,7 @@ keys-rest : (d : Bool) (v w : Value) (n r : ℕ) → IsKeyRank d (value_behind n
     → IsKeyRank d (value_behind n w) r
     → key_cmp d (value_behind (n + 7) v) (value_behind (n + 7) w)
     ≡ key_cmp d (value_behind n v) (value_behind n w)
-keys-rest false v w n r h k = values-rest v w n r h.is k.is
-keys-rest true v w n r h k = ap ordering_reverse (values-rest v w n _ h.is k.is)
+keys-rest d v w n r h k = grind (arith, values-rest)
 
 -- so many bytes of the text of the first key are the same in both rows, so that they compare by
 -- what follows these
@@ -221,14 +210,7 @@ AreTold (key ∷ keys) told a b =
     ≡ key_cmp key.descending (value_at a key.column) (value_at b key.column)
 
 none-told : (keys : List SortKey) (a b : Row) → AreTold keys 0 a b
-none-told [] a b = tt
-none-told (key ∷ keys) a b =
-    ap₂ (λ v w. key_cmp key.descending v w) (whole (value_at a key.column))
-    (whole (value_at b key.column))
-  where
-    whole : (v : Value) → value_behind 0 v ≡ v
-    whole (Text bytes) = refl
-    whole v = refl
+none-told keys a b = grind arith
 
 behind-fits : (types : List ColumnType) (key : SortKey) (told : ℕ) (row : Row)
     → FitsTypes types row → key.column < length types
@@ -292,12 +274,7 @@ ranks-tie types (key ∷ keys) told a b r f t h k = by (is_exact types (key ∷ 
           (behind-fits types key told a f.one here) (behind-fits types key told b f.other here)
           h k e));
     }
-    by false e = record {
-      fits = f;
-      alike = keys-rest key.descending (value_at a key.column) (value_at b key.column) told r h k
-          ∙ t;
-      same = refl;
-    }
+    by false e = grind (arith, keys-rest)
 
 -- a rank tells what the keys do, where for the same rank the keys that are left do
 rank-tells : (types : List ColumnType) (keys : List SortKey) (told : ℕ) (a b : Row) (r s : ℕ)

@@ -1,6 +1,6 @@
 -- A sort gathers the rows of its chunks, and then makes them in order.
-use Rattle.sort_procs.proofs.Imports.{AgreeOnKey, All, All-drop, AllByRecursion, AreKeysWithin, AreSorted, HasRanks, IsPermutation-append_right, IsPermutation-map, IsPermutation-sym, IsPermutation-trans, IsSortOf, IsTable, Makes, Offer, OfferComes, Offers, OwnState, Picture, PutsFront, PutsInOrder, PutsMore, Ranked, Row, SortKey, SortSpec, Table, WantsMore, any_order, append-nil, chunk_rows, count_up, drop-append_seam, drop-drop, every-permuted, every-turned, idle_own, in_count, input_at, is_in_finished, is_lt, length-append, length-drop, length-map, length-take, length_permutation, lt-ltb, ltb-true, makes-nothing, map-append, or_right, order-cross, order-from_sorted, order-front, order-joined, ordered, ordered-order, ordered-same, ranked_place, row_at, row_cmp, rows-ordered, rows_at, rows_left, sorted-from_order, sorting_own, take-add, take-append-drop}
-use Rattle.std.proofs.Common.{Bool, IsPermutation, IsSorted, IsTrue, List, None, Option, Some, [], ap, append_assoc, arith, drop, false, inl, inr, length, map, max, min, nat_lt, refl, subst, sym, take, true, ℕ, ◌++◌, ◌+◌, ◌-◌, ◌<◌, ◌≤◌, ◌||◌, ◌↔◌, ◌∙◌, ◌∷◌, ◌≡◌, ◌⊎◌}
+use Rattle.sort_procs.proofs.Imports.{AgreeOnKey, All, All-drop, AllByRecursion, AreKeysWithin, AreSorted, HasRanks, IsPermutation-append_right, IsPermutation-map, IsPermutation-sym, IsPermutation-trans, IsSortOf, IsTable, Makes, Offer, OfferComes, Offers, OwnState, Picture, PutsFront, PutsInOrder, PutsMore, Ranked, Row, SortKey, SortSpec, Table, WantsMore, any_order, append-nil, chunk_rows, count_up, drop-append_seam, drop-drop, every-permuted, every-turned, idle_own, in_count, input_at, is_in_finished, is_lt, length-append, length-drop, length-map, length-take, length_permutation, lt-ltb, ltb-true, map-append, or_right, order-cross, order-from_sorted, order-front, order-joined, ordered, ordered-order, ordered-same, ranked_place, row_at, row_cmp, rows-ordered, rows_at, rows_left, sorted-from_order, sorting_own, take-add, take-append-drop}
+use Rattle.std.proofs.Common.{Bool, IsPermutation, IsSorted, IsTrue, List, Option, Some, [], ap, append_assoc, arith, drop, false, inl, inr, length, map, max, min, nat_lt, refl, subst, sym, take, true, ℕ, ◌++◌, ◌+◌, ◌-◌, ◌<◌, ◌≤◌, ◌||◌, ◌↔◌, ◌∙◌, ◌∷◌, ◌≡◌, ◌⊎◌}
 use Rattle.sort_procs.proofs.RankLaws.{front-sorted, rows-same}
 use Rattle.query_model.specs.declared.processor_spec.Spec.TheVariants as spec
 
@@ -150,12 +150,6 @@ module _ (order : SortSpec) where
     none-made ended sorted false h e = nothing-of (own ended sorted).unmade
         (λ some. let f : false ≡ true = h.1 some in cc)
 
-    pub makes-none : (ended sorted made : Bool)
-        → IsTrue made ↔ (0 < length (own ended sorted).unmade) → made ≡ false
-        → Makes (spec.Sort order) (own ended sorted) (own ended sorted) None
-    makes-none ended sorted made h e =
-        makes-nothing (spec.Sort order) (own ended sorted) (none-made ended sorted made h e)
-
     pub makes-next : (count : ℕ) (c : Table) → count ≡ min (front - next) (max order.rows 1)
         → front ≤ length places → 0 < count → c.types ≡ order.types
         → c.rows ≡ rows_at rows.rows (take count (drop next places))
@@ -219,10 +213,7 @@ module _ (order : SortSpec) where
       → ranked ≡ false → map ranked_place places ≡ count_up (length rows.rows)
       → sorting_own keys ended true places 0 0 rows
       ≡ sorting_own keys ended ranked old next front rows
-  ranks_now true false places old next front rows e h =
-      rw (rows-same rows places h) refl
-  ranks_now false false places old next front rows e h = refl
-  ranks_now ended true places old next front rows e h = absurd (cc)
+  ranks_now ended ranked places old next front rows e h = grind (arith, rows-same)
 
   -- rows that are left are put in order
   put-again : (a b : List Row) → IsPermutation a b → IsSorted (row_cmp keys) b
@@ -281,24 +272,13 @@ module _ (order : SortSpec) where
           (IsPermutation-map (λ (r : Ranked). row_at rows.rows r.place) (drop front old) put h.same)
 
       was : rows_left keys true old front front rows.rows ≡ any_order keys rest
-      was = let none : front - front ≡ 0 = omega arith in
-          ap (λ n. rows_at rows.rows (take n (drop front old)) ++ any_order keys rest) none
+      was = grind (arith, rest)
 
       back : drop front new ≡ put
-      back =
-          let long : length (take front old) ≡ front =
-          length-take front old ∙ omega (arith, few) in
-          ap (λ n. drop n new) (sym long) ∙ ap (drop (length (take front old))) e
-          ∙ drop-append_seam (take front old) put
+      back = grind (arith, length-take front old, drop-append_seam (take front old) put)
 
       now : rows_left keys true new front (front + count) rows.rows ≡ sorted
-      now = let more : (front + count) - front ≡ count = omega arith in
-          ap (λ n. rows_at rows.rows (take n (drop front new))
-          ++ any_order keys (rows_at rows.rows (drop (front + count) new))) more
-          ∙ ap (λ l. rows_at rows.rows (take count (drop front new))
-          ++ any_order keys (rows_at rows.rows l)) (sym (drop-drop count front new))
-          ∙ ap (λ l. rows_at rows.rows (take count l)
-          ++ any_order keys (rows_at rows.rows (drop count l))) back
+      now = grind (arith, drop-drop, back)
 
   -- the same of the sort that it is asked of
   pub extended : (ended ranked : Bool) (old new : List Ranked) (next front count : ℕ)
