@@ -40,7 +40,7 @@ rows_joined (Some join) db left = length left + length (used_table db join.table
 -- `answer`. A kind of which the query has no use pulls nothing: a Filter without WHERE and HAVING,
 -- a PartialAggregate without grouping, a HashJoin without JOIN, a Sort without ORDER BY, and a
 -- MergeSorted without ORDER BY or with grouping, since then one Sort has all rows. Of the kinds
--- that aren't named here nothing is said.
+-- that come last nothing is said.
 abbrev pub flow : Kind → Checked → Database → List Row → Option ℕ
 flow kind.Filter q db answer = Some (rows_tested q.filter (source_rows q db)
     + groups_tested q.shape (source_table q db).types (filtered_rows q db))
@@ -52,4 +52,9 @@ flow kind.Sort q db answer = Some (if_ordered q.order (length (output_rows q db)
 flow kind.MergeSorted q db answer =
     Some (if_ordered q.order (if_plain q.shape (length (output_rows q db))))
 flow kind.Collect q db answer = Some (length answer)
-flow _ q db answer = None
+flow kind.Csv q db answer = None
+flow kind.List q db answer = None
+flow kind.Numbers q db answer = None
+flow kind.Resize q db answer = None
+flow kind.MergeAggregate q db answer = None
+flow kind.Limit q db answer = None

@@ -1,6 +1,5 @@
 -- A spelling takes at least one token of what it begins with.
-use Rattle.sql_text.proofs.Imports.{◌<◌, List, ◌∷◌, length, arith, Clause, ColumnRef, Join, NamePair, OrderKey, TableRef, Expression, CallTree, QueryOperand, CondForm, ItemWhat, ItemTree, Selection, Tokens, IsColumn, IsExpr, one_term, sum, difference, IsTerm, one_factor, product, IsFactor, a_column, a_number, negative, enclosed, IsAgg, call_over, IsOperand, an_expr, IsGroupOperand, a_key, a_call, IsCond, one_conj, disjunction, IsConj, one_neg, conjunction, IsNeg, negation, enclosed_cond, comparison, AreListed, last_one, one_more, IsWhat, an_expression, an_agg, IsSelectItem, IsSelection, IsTableRef, IsPair, equal_columns, IsJoined, table_on, IsOrderKey, Token}
-use Rattle.sql_text.specs.declared.term.Clause.TheVariants as clause
+use Rattle.sql_text.proofs.Imports.{◌<◌, List, ◌∷◌, length, arith, ColumnRef, Join, NamePair, OrderKey, TableRef, Expression, CallTree, QueryOperand, CondForm, ItemWhat, ItemTree, Selection, Tokens, IsColumn, IsExpr, one_term, sum, difference, IsTerm, one_factor, product, IsFactor, a_column, a_number, negative, enclosed, IsAgg, call_over, IsOperand, an_expr, IsGroupOperand, a_key, a_call, IsCond, one_conj, disjunction, IsConj, one_neg, conjunction, IsNeg, negation, enclosed_cond, comparison, AreListed, last_one, one_more, IsWhat, an_expression, an_agg, IsSelectItem, IsSelection, IsTableRef, IsPair, equal_columns, IsJoined, table_on, IsOrderKey, Token}
 use Rattle.sql_grammar.specs.declared.Token.TheVariants as token
 
 abbrev pub IsShorter : Tokens → Tokens → Type 0
@@ -29,17 +28,17 @@ pub agg_shorter : {c : CallTree} {ts rest : Tokens} → IsAgg c ts rest → IsSh
 agg_shorter (call_over h k e) = omega (arith, expr_shorter e)
 agg_shorter _ = omega arith
 
--- the operands of a clause's conditions
-abbrev pub operands_in : Clause → QueryOperand → Tokens → Tokens → Type 0
-operands_in clause.OfRows s ts rest = IsOperand s ts rest
-operands_in clause.OfGroups s ts rest = IsGroupOperand s ts rest
-
-pub operand_shorter : (k : Clause) (s : QueryOperand) (ts rest : Tokens) → operands_in k s ts rest
+-- the sides of WHERE, and those of HAVING
+pub operand_shorter : (s : QueryOperand) (ts rest : Tokens) → IsOperand s ts rest
     → IsShorter rest ts
-operand_shorter clause.OfRows s ts rest (an_expr e) = expr_shorter e
-operand_shorter clause.OfGroups s ts rest (a_key c) = column_shorter c
-operand_shorter clause.OfGroups s ts rest (a_call c) = agg_shorter c
-operand_shorter _ s ts rest _ = omega arith
+operand_shorter s ts rest (an_expr e) = expr_shorter e
+operand_shorter s ts rest _ = omega arith
+
+pub group_shorter : (s : QueryOperand) (ts rest : Tokens) → IsGroupOperand s ts rest
+    → IsShorter rest ts
+group_shorter s ts rest (a_key c) = column_shorter c
+group_shorter s ts rest (a_call c) = agg_shorter c
+group_shorter s ts rest _ = omega arith
 
 module _ {S : Type 0} (Op : S → Tokens → Tokens → Type 0)
     (each : (s : S) (ts rest : Tokens) → Op s ts rest → IsShorter rest ts) where

@@ -2,7 +2,7 @@
 pub use Rattle.query_model.proofs.NumeralLaws.{with_digits-is}
 pub use Rattle.query_model.specs.Fields.{numeral_value}
 pub use Rattle.sql_grammar.proofs.Longest.{take-take_while, take_while-longest}
-pub use Rattle.query_model.specs.Formulas.{CondForm, column, number}
+pub use Rattle.query_model.specs.Formulas.{CondForm, column}
 pub use Rattle.query_model.specs.Names.{HasItsArgument, IsAnalysable, IsNoCall, calls_of, item_calls, operands_of}
 pub use Rattle.query_model.specs.declared.query.AggCall.{AggCall}
 pub use Rattle.query_model.specs.declared.query.AggOp.{AggOp}
@@ -28,11 +28,10 @@ pub use Rattle.sql_grammar.specs.declared.TextPlace.{TextPlace}
 pub use Rattle.sql_grammar.specs.declared.TextPlace.TheVariants.{Middle}
 pub use Rattle.sql_grammar.specs.declared.Token.{Token}
 pub use Rattle.sql_text.specs.Answers.{ParseFails}
-pub use Rattle.sql_text.specs.Terms.{OperandParser, Parse, Parsed, PartParser, SideRules, binary_of, calculated, call_at, call_or_column, called, closed_at, column_at, condition_of, count_at, dotted, encloses, first_term, if_both, if_level, joined_at, joint_of, level, negation_at, next_joint, over, parsed, plain_operand, plain_side, query_sides, side, side_at, side_of, sign_joint, term_at, truth, turn_of, word_at}
-pub use Rattle.sql_text.specs.Queries.{QueryTail, after_equal, alias_at, behind, call_front, clause_at, column_ref_at, condition_at, count_behind, direction_at, ending_at, from_at, is_text_end, item_at, item_of, items_at, join_at, joined_table_at, keys_at, limit_at, list_behind, on_at, order_at, order_key_at, pair_at, pair_behind, plain_what, query_at, query_of, selection_at, some_join, table_at, table_named, what_at, what_by, with_alias, by_at, clause_behind, filter_at, having_at, number_parse, offset_at, reads, span_at, span_with, text_query}
+pub use Rattle.sql_text.specs.Terms.{OperandParser, Parse, Parsed, PartParser, SideRules, binary_of, call_at, call_front, call_or_row, called, closed_at, column_at, condition_of, count_at, dotted, first_term, group_sides, if_both, if_level, joined_at, joint_of, level, negation_at, next_joint, part_form, plain_operand, plain_side, row_side_at, row_sides, side, side_of, sign_joint, truth, turn_of}
+pub use Rattle.sql_text.specs.Queries.{QueryTail, after_equal, alias_at, behind, clause_at, column_ref_at, condition_at, count_behind, direction_at, ending_at, from_at, is_text_end, item_at, item_of, items_at, join_at, joined_table_at, keys_at, limit_at, list_behind, on_at, order_at, order_key_at, pair_at, pair_behind, query_at, query_of, selection_at, some_join, table_at, table_named, what_at, what_by, with_alias, by_at, clause_behind, filter_at, having_at, number_parse, offset_at, reads, span_at, span_with, text_query}
 pub use Rattle.sql_text.specs.Refusals.{IsReadFrom, IsRefused, early_refusal, parse_refusal_of, token_refusal}
 pub use Rattle.sql_text.specs.declared.lists.Separator.{Separator}
-pub use Rattle.sql_text.specs.declared.term.Clause.{Clause}
 pub use Rattle.sql_text.specs.declared.term.BinaryOperator.{BinaryOperator}
 pub use Rattle.sql_text.specs.declared.parse_error.ParseError.{ParseError}
 pub use Rattle.std.proofs.Common.{Bool, IfSome, List, None, Option, Some, [], add-one, ap, append_assoc, arith, cond, drop, false, flat_map, get_or, inl, inr, length, map, option_and_then, option_map, refl, subst, suc, sym, take, true, zero, ℕ, ◌*◌, ◌++◌, ◌+◌, ◌-◌, ◌<◌, ◌∙◌, ◌∷◌, ◌≡◌, ◌≤◌}

@@ -1,12 +1,11 @@
 -- What is spelled is read.
-use Rattle.sql_text.proofs.Imports.{◌≡◌, ℕ, suc, ◌≤◌, true, List, ◌∷◌, length, Some, None, option_and_then, refl, ap, ◌∙◌, arith, column, AggOp, ColumnRef, CompareOp, aggregate_of, has_argument, Expression, CallTree, QueryOperand, plain, call, Tokens, IsColumn, unqualified, IsExpr, one_term, sum, difference, IsTerm, one_factor, product, IsFactor, a_column, a_number, negative, enclosed, IsAgg, count_rows, count_star, call_over as over, an_expr, a_key, a_call, IsComparison, IsCond, one_conj, disjunction, IsConj, one_neg, conjunction, IsNeg, negation, enclosed_cond, comparison, Sign, Clause, Parsed, side, truth, OperandParser, SideRules, CondForm, query_sides, joint_of, if_level, next_joint, dotted, closed_at, call_at, called, negation_at, first_term, part_at, term_at}
+use Rattle.sql_text.proofs.Imports.{◌≡◌, ℕ, suc, ◌≤◌, true, List, ◌∷◌, length, Some, None, option_and_then, refl, ap, ◌∙◌, arith, column, AggOp, ColumnRef, CompareOp, aggregate_of, has_argument, Expression, CallTree, QueryOperand, plain, call, Tokens, IsOperand, IsGroupOperand, IsColumn, unqualified, IsExpr, one_term, sum, difference, IsTerm, one_factor, product, IsFactor, a_column, a_number, negative, enclosed, IsAgg, count_rows, count_star, call_over as over, an_expr, a_key, a_call, IsComparison, IsCond, one_conj, disjunction, IsConj, one_neg, conjunction, IsNeg, negation, enclosed_cond, comparison, Sign, Parsed, side, truth, OperandParser, SideRules, CondForm, row_sides, group_sides, joint_of, if_level, next_joint, dotted, closed_at, call_at, called, negation_at, first_term, part_at}
 use Rattle.query_model.specs.declared.query.ArithOp.TheVariants as op
 use Rattle.sql_grammar.specs.declared.Token.TheVariants as token
 use Rattle.sql_grammar.specs.declared.Sign.TheVariants as sign
-use Rattle.sql_text.specs.declared.term.Clause.TheVariants as clause
 use Rattle.sql_text.specs.declared.term.BinaryOperator.TheVariants as joint
 use Rattle.sql_text.specs.Terms.{call_over}
-use Rattle.sql_text.proofs.Behind.{IsShorter, operands_in, expr_shorter, term_shorter, factor_shorter, operand_shorter, cond_shorter, conj_shorter, neg_shorter}
+use Rattle.sql_text.proofs.Behind.{IsShorter, expr_shorter, term_shorter, factor_shorter, operand_shorter, group_shorter, cond_shorter, conj_shorter, neg_shorter}
 use Rattle.sql_text.proofs.Turns.{ends_name, if_level-none, none_above_products, tighter, Goes, from_first, onward, deeper}
 
 -- ---- expressions
@@ -19,58 +18,63 @@ dotted_found name ts h = grind arith
 pub nothing_called : (w : List ℕ) (ts : Tokens) → ends_name ts ≡ true → called w ts ≡ None
 nothing_called w ts h = grind arith
 
-column_found : (k : Clause) (n : ℕ) {c : ColumnRef} {ts rest : Tokens} → IsColumn c ts rest
-    → ends_name rest ≡ true → first_term query_sides k (term_at n) ts
+row_column : (n : ℕ) {c : ColumnRef} {ts rest : Tokens} → IsColumn c ts rest
+    → ends_name rest ≡ true → first_term row_sides n (part_at row_sides n) ts
     ≡ Some (side (plain (column c)), rest)
-column_found k n (unqualified {name = name} {rest = rest}) h =
+row_column n (unqualified {name = name} {rest = rest}) h = grind (arith, dotted_found)
+row_column n a h = grind (arith, dotted_found)
+
+group_column : (n : ℕ) {c : ColumnRef} {ts rest : Tokens} → IsColumn c ts rest
+    → ends_name rest ≡ true → first_term group_sides n (part_at group_sides n) ts
+    ≡ Some (side (plain (column c)), rest)
+group_column n (unqualified {name = name} {rest = rest}) h =
     grind (arith, dotted_found, nothing_called)
-column_found k n a h = grind (arith, dotted_found, nothing_called)
+group_column n a h = grind (arith, dotted_found, nothing_called)
 
 -- What is spelled so is read at each level up to top, where no binary operator of bar or above
 -- follows.
-abbrev pub ReadsAs : {S : Type 0} → SideRules S → Clause → ℕ → ℕ → Parsed S → Tokens → Tokens
-    → Type 0
-ReadsAs rules k top bar v ts rest = (n least : ℕ) → least ≤ top → ends_name rest ≡ true
-    → next_joint bar rest ≡ None → length ts ≤ suc n → Goes rules k n least v ts rest
+abbrev pub ReadsAs : {S : Type 0} → SideRules S → ℕ → ℕ → Parsed S → Tokens → Tokens → Type 0
+ReadsAs rules top bar v ts rest = (n least : ℕ) → least ≤ top → ends_name rest ≡ true
+    → next_joint bar rest ≡ None → length ts ≤ suc n → Goes rules n least v ts rest
 
 -- what stands in parentheses
-inside_found : {S : Type 0} (rules : SideRules S) (k : Clause) (n : ℕ) (v : Parsed S)
-    (ts rest : Tokens) → part_at rules n k 1 ts ≡ Some (v, token.Sign sign.Close ∷ rest)
-    → closed_at rules k v (token.Sign sign.Close ∷ rest) ≡ Some (v, rest)
-    → first_term rules k (part_at rules n) (token.Sign sign.Open ∷ ts) ≡ Some (v, rest)
-inside_found rules k n v ts rest read close =
-    ap (option_and_then (λ p. closed_at rules k p.0 p.1)) read ∙ close
+inside_found : {S : Type 0} (rules : SideRules S) (n : ℕ) (v : Parsed S) (ts rest : Tokens)
+    → part_at rules n 1 ts ≡ Some (v, token.Sign sign.Close ∷ rest)
+    → closed_at rules v (token.Sign sign.Close ∷ rest) ≡ Some (v, rest)
+    → first_term rules n (part_at rules n) (token.Sign sign.Open ∷ ts) ≡ Some (v, rest)
+inside_found rules n v ts rest read close =
+    ap (option_and_then (λ p. closed_at rules p.0 p.1)) read ∙ close
 
 mutual
   factor_found : {e : Expression} {ts rest : Tokens} → IsFactor e ts rest → (n : ℕ)
       → ends_name rest ≡ true → length ts ≤ suc n
-      → first_term query_sides clause.OfRows (term_at n) ts ≡ Some (side (plain e), rest)
-  factor_found (a_column c) n h l = column_found clause.OfRows n c h
+      → first_term row_sides n (part_at row_sides n) ts ≡ Some (side (plain e), rest)
+  factor_found (a_column c) n h l = row_column n c h
   factor_found a_number n h l = refl
   factor_found negative n h l = refl
   factor_found (enclosed {e = e} {ts = ts} {rest = rest} a) n h l =
-      inside_found query_sides clause.OfRows n (side (plain e)) ts rest
-      (deeper query_sides n (omega arith) (expr_shorter a)
+      inside_found row_sides n (side (plain e)) ts rest
+      (deeper row_sides n (omega arith) (expr_shorter a)
       (λ m i. expr_found a m 1 (omega arith) refl refl i) refl) refl
 
   term_found : {e : Expression} {ts rest : Tokens} → IsTerm e ts rest
-      → ReadsAs query_sides clause.OfRows 6 7 (side (plain e)) ts rest
-  term_found (one_factor a) n least k h none l = from_first query_sides (factor_found a n h l)
+      → ReadsAs row_sides 6 7 (side (plain e)) ts rest
+  term_found (one_factor a) n least k h none l = from_first row_sides (factor_found a n h l)
   term_found (product left right) n least k h none l =
-      onward query_sides (joint.Arith op.Mul) (term_found left n least k refl refl l) refl k
+      onward row_sides (joint.Arith op.Mul) (term_found left n least k refl refl l) refl k
       (term_shorter left) l (factor_shorter right)
-      (λ m i. from_first query_sides (factor_found right m h i)) none refl
+      (λ m i. from_first row_sides (factor_found right m h i)) none refl
 
   pub expr_found : {e : Expression} {ts rest : Tokens} → IsExpr e ts rest
-      → ReadsAs query_sides clause.OfRows 5 6 (side (plain e)) ts rest
+      → ReadsAs row_sides 5 6 (side (plain e)) ts rest
   expr_found (one_term a) n least k h none l =
       term_found a n least (omega arith) h (none_above_products _) l
   expr_found (sum left right) n least k h none l =
-      onward query_sides (joint.Arith op.Add) (expr_found left n least k refl refl l) refl k
+      onward row_sides (joint.Arith op.Add) (expr_found left n least k refl refl l) refl k
       (expr_shorter left) l (term_shorter right)
       (λ m i. term_found right m 6 (omega arith) h (none_above_products _) i) none refl
   expr_found (difference left right) n least k h none l =
-      onward query_sides (joint.Arith op.Sub) (expr_found left n least k refl refl l) refl k
+      onward row_sides (joint.Arith op.Sub) (expr_found left n least k refl refl l) refl k
       (expr_shorter left) l (term_shorter right)
       (λ m i. term_found right m 6 (omega arith) h (none_above_products _) i) none refl
 
@@ -83,10 +87,10 @@ pub record Calls (n : ℕ) (c : CallTree) (ts rest : Tokens) : Type 0 where
   pub inside : Tokens
   pub front : ts ≡ token.Name word ∷ token.Sign sign.Open ∷ inside
   pub known : aggregate_of word ≡ Some op
-  pub read : call_at (term_at n) op inside ≡ Some (c, rest)
+  pub read : call_at (part_at row_sides n) op inside ≡ Some (c, rest)
 
 over_read : (inner : OperandParser) (op : AggOp) (ts : Tokens) → has_argument op ≡ true
-    → call_at inner op ts ≡ call_over op (inner clause.OfRows 5 ts)
+    → call_at inner op ts ≡ call_over op (inner 5 ts)
 over_read inner op ts h = grind arith
 
 pub agg_found : {c : CallTree} {ts rest : Tokens} → IsAgg c ts rest → (n : ℕ) → length ts ≤ suc n
@@ -99,26 +103,28 @@ agg_found (over {w = w} {op = op} {e = e} {ts = ts} {rest = rest} h k is) n l = 
   inside = ts;
   front = refl;
   known = h;
-  read = over_read (term_at n) op ts k ∙ ap (call_over op) (deeper query_sides n (omega arith)
-      (expr_shorter is) (λ m i. expr_found is m 5 (omega arith) refl refl i) refl);
+  read = over_read (part_at row_sides n) op ts k ∙ ap (call_over op) (deeper row_sides n
+      (omega arith) (expr_shorter is) (λ m i. expr_found is m 5 (omega arith) refl refl i) refl);
 }
 
 -- a call is read as one in HAVING
 call_found : (n : ℕ) (c : CallTree) (ts rest : Tokens) → Calls n c ts rest
-    → first_term query_sides clause.OfGroups (term_at n) ts ≡ Some (side (call c), rest)
+    → first_term group_sides n (part_at group_sides n) ts ≡ Some (side (call c), rest)
 call_found n c ts rest it = grind arith
 
 -- ---- conditions
 
-operand_found : (c : Clause) (s : QueryOperand) (ts rest : Tokens) → operands_in c s ts rest
-    → ReadsAs query_sides c 5 6 (side s) ts rest
-operand_found clause.OfRows s ts rest (an_expr e) n least k h none l =
-    expr_found e n least k h none l
-operand_found clause.OfGroups s ts rest (a_key c) n least k h none l =
-    from_first query_sides (column_found clause.OfGroups n c h)
-operand_found clause.OfGroups s ts rest (a_call c) n least k h none l =
-    from_first query_sides (call_found n _ _ _ (agg_found c n l))
-operand_found _ s ts rest _ n least k h none l = from_first query_sides refl
+operand_found : (s : QueryOperand) (ts rest : Tokens) → IsOperand s ts rest
+    → ReadsAs row_sides 5 6 (side s) ts rest
+operand_found s ts rest (an_expr e) n least k h none l = expr_found e n least k h none l
+operand_found s ts rest _ n least k h none l = from_first row_sides refl
+
+group_found : (s : QueryOperand) (ts rest : Tokens) → IsGroupOperand s ts rest
+    → ReadsAs group_sides 5 6 (side s) ts rest
+group_found s ts rest (a_key c) n least k h none l = from_first group_sides (group_column n c h)
+group_found s ts rest (a_call c) n least k h none l =
+    from_first group_sides (call_found n _ _ _ (agg_found c n l))
+group_found s ts rest _ n least k h none l = from_first group_sides refl
 
 -- the binary operator of a comparison, behind which a name may stand
 comparison_joint : {o : CompareOp} {s : Sign} → IsComparison o s
@@ -127,22 +133,22 @@ comparison_joint : {o : CompareOp} {s : Sign} → IsComparison o s
 comparison_joint a = grind arith
 
 -- what is told of the sides of comparisons: each is read, and takes a token
-pub record AreRead {S : Type 0} (rules : SideRules S) (k : Clause)
+pub record AreRead {S : Type 0} (rules : SideRules S)
     (Op : S → Tokens → Tokens → Type 0) : Type 0 where
-  pub found : (s : S) (ts rest : Tokens) → Op s ts rest → ReadsAs rules k 5 6 (side s) ts rest
+  pub found : (s : S) (ts rest : Tokens) → Op s ts rest → ReadsAs rules 5 6 (side s) ts rest
   pub shorter : (s : S) (ts rest : Tokens) → Op s ts rest → IsShorter rest ts
 
-module _ {S : Type 0} (rules : SideRules S) (c : Clause)
-    (Op : S → Tokens → Tokens → Type 0) (sides : AreRead rules c Op) where
+module _ {S : Type 0} (rules : SideRules S)
+    (Op : S → Tokens → Tokens → Type 0) (sides : AreRead rules Op) where
   mutual
     neg_found : {v : CondForm S} {ts rest : Tokens} → IsNeg Op v ts rest
-        → ReadsAs rules c 4 4 (truth v) ts rest
+        → ReadsAs rules 4 4 (truth v) ts rest
     neg_found (negation a) n least k h none l =
         from_first rules (ap (option_and_then (λ p. negation_at p.0 p.1)) (deeper rules n
         (omega arith) (neg_shorter Op sides.shorter a)
         (λ m i. neg_found a m 4 (omega arith) h none i) none))
     neg_found (enclosed_cond {c = v} {ts = ts} {rest = rest} a) n least k h none l =
-        from_first rules (inside_found rules c n (truth v) ts rest (deeper rules n (omega arith)
+        from_first rules (inside_found rules n (truth v) ts rest (deeper rules n (omega arith)
         (cond_shorter Op sides.shorter a)
         (λ m i. cond_found a m 1 (omega arith) refl refl i) refl) refl)
     neg_found (comparison {o = o} {s = s} {a = a} {b = b} {ts = ts} {mid = mid} {rest = rest}
@@ -158,7 +164,7 @@ module _ {S : Type 0} (rules : SideRules S) (c : Clause)
         (tighter 4 5 rest (omega arith) none) refl
 
     conj_found : {v : CondForm S} {ts rest : Tokens} → IsConj Op v ts rest
-        → ReadsAs rules c 2 3 (truth v) ts rest
+        → ReadsAs rules 2 3 (truth v) ts rest
     conj_found (one_neg a) n least k h none l =
         neg_found a n least (omega arith) h (tighter 3 4 _ (omega arith) none) l
     conj_found (conjunction left right) n least k h none l =
@@ -167,7 +173,7 @@ module _ {S : Type 0} (rules : SideRules S) (c : Clause)
         (λ m i. neg_found right m 3 (omega arith) h (tighter 3 4 _ (omega arith) none) i) none refl
 
     pub cond_found : {v : CondForm S} {ts rest : Tokens} → IsCond Op v ts rest
-        → ReadsAs rules c 1 2 (truth v) ts rest
+        → ReadsAs rules 1 2 (truth v) ts rest
     cond_found (one_conj a) n least k h none l =
         conj_found a n least (omega arith) h (tighter 2 3 _ (omega arith) none) l
     cond_found (disjunction left right) n least k h none l =
@@ -175,5 +181,8 @@ module _ {S : Type 0} (rules : SideRules S) (c : Clause)
         (cond_shorter Op sides.shorter left) l (conj_shorter Op sides.shorter right)
         (λ m i. conj_found right m 2 (omega arith) h (tighter 2 3 _ (omega arith) none) i) none refl
 
-pub query_sides-read : (k : Clause) → AreRead query_sides k (operands_in k)
-query_sides-read k = record { found = operand_found k; shorter = operand_shorter k }
+pub row_sides-read : AreRead row_sides IsOperand
+row_sides-read = record { found = operand_found; shorter = operand_shorter }
+
+pub group_sides-read : AreRead group_sides IsGroupOperand
+group_sides-read = record { found = group_found; shorter = group_shorter }

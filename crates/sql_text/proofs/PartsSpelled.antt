@@ -1,5 +1,5 @@
 -- What is read is spelled so.
-use Rattle.sql_text.proofs.Imports.{◌≡◌, ℕ, zero, suc, ◌≤◌, true, List, ◌∷◌, length, Option, Some, None, option_and_then, option_map, IfSome, refl, sym, subst, arith, AggOp, ArithOp, CompareOp, aggregate_of, has_argument, Expression, QueryOperand, plain, text, compare, both, Tokens, IsColumn, unqualified, qualified, IsExpr, one_term, sum, difference, IsTerm, one_factor, product, IsFactor, a_column, a_number, negative, enclosed, IsAgg, count_rows, count_star, call_over as called_over, an_expr, a_string, IsGroupOperand, a_key, a_call, a_constant, a_negative, a_text, IsComparison, equal, not_equal, less, less_equal, greater, greater_equal, IsCond, one_conj, disjunction, IsConj, one_neg, conjunction, IsNeg, negation, enclosed_cond, comparison, Token, Sign, BinaryOperator, Clause, Parsed, side, truth, Parse, OperandParser, PartParser, SideRules, CondForm, call, sign_joint, joint_of, level, if_level, next_joint, if_both, binary_of, side_of, dotted, column_at, query_sides, encloses, side_at, closed_at, count_at, call_at, called, call_or_column, word_at, negation_at, first_term, turn_of, joined_at, joined, part_at, term_at}
+use Rattle.sql_text.proofs.Imports.{◌≡◌, ℕ, zero, suc, ◌≤◌, true, List, ◌∷◌, length, Option, Some, None, option_and_then, option_map, IfSome, refl, sym, subst, arith, AggOp, ArithOp, CompareOp, aggregate_of, has_argument, Expression, QueryOperand, plain, text, compare, both, Tokens, IsColumn, unqualified, qualified, IsExpr, one_term, sum, difference, IsTerm, one_factor, product, IsFactor, a_column, a_number, negative, enclosed, IsAgg, count_rows, count_star, call_over as called_over, an_expr, a_string, IsOperand, IsGroupOperand, a_key, a_call, a_constant, a_negative, a_text, IsComparison, equal, not_equal, less, less_equal, greater, greater_equal, IsCond, one_conj, disjunction, IsConj, one_neg, conjunction, IsNeg, negation, enclosed_cond, comparison, Token, Sign, BinaryOperator, Parsed, side, truth, Parse, OperandParser, PartParser, SideRules, CondForm, call, sign_joint, joint_of, level, if_level, next_joint, if_both, binary_of, side_of, dotted, row_sides, group_sides, row_side_at, closed_at, count_at, call_at, called, call_front, call_or_row, negation_at, first_term, turn_of, joined_at, joined, part_at, plain_side, is_some}
 use Rattle.query_model.specs.Formulas.{arith as arithmetic}
 use Rattle.query_model.specs.declared.query.AggOp.TheVariants as agg
 use Rattle.query_model.specs.declared.query.ArithOp.TheVariants as op
@@ -7,10 +7,8 @@ use Rattle.sql_grammar.specs.declared.Token.TheVariants as token
 use Rattle.sql_grammar.specs.declared.Keyword.TheVariants as keyword
 use Rattle.sql_grammar.specs.declared.Sign.TheVariants as sign
 use Rattle.sql_text.specs.declared.term.BinaryOperator.TheVariants as joint
-use Rattle.sql_text.specs.declared.term.Clause.TheVariants as clause
 use Rattle.sql_text.specs.Terms.{call_over}
 use Rattle.sql_text.proofs.Turns.{level_below, none_above_products, tighter}
-use Rattle.sql_text.proofs.Behind.{operands_in}
 
 pub bind : {A B : Type 0} (P : A → Type 0) (Q : B → Type 0) (f : A → Option B) (o : Option A)
     → IfSome o P → ((x : A) → P x → IfSome (f x) Q) → IfSome (option_and_then f o) Q
@@ -71,147 +69,144 @@ a_neg : {S : Type 0} {Op : S → Tokens → Tokens → Type 0} (tight : ℕ) {c 
 a_neg tight n = record { cond' = one_conj (one_neg n); conj = λ i. one_neg n; neg = λ i. n }
 
 -- Op is what spells a side, and IsSide what spells one that holds together so tightly.
-module _ {S : Type 0} (Op : Clause → S → Tokens → Tokens → Type 0)
-    (IsSide : Clause → ℕ → S → Tokens → Tokens → Type 0) where
+module _ {S : Type 0} (Op : S → Tokens → Tokens → Type 0)
+    (IsSide : ℕ → S → Tokens → Tokens → Type 0) where
   -- a part that may stand beside a binary operator of a lower level
-  abbrev pub IsPart : Clause → ℕ → Parsed S → Tokens → Tokens → Type 0
-  IsPart k tight (side s) ts rest = IsSide k tight s ts rest
-  IsPart k tight (truth c) ts rest = AsCond (Op k) tight c ts rest
+  abbrev pub IsPart : ℕ → Parsed S → Tokens → Tokens → Type 0
+  IsPart tight (side s) ts rest = IsSide tight s ts rest
+  IsPart tight (truth c) ts rest = AsCond Op tight c ts rest
 
   -- A part, behind which no binary operator binds so tightly.
-  pub record Found (k : Clause) (least : ℕ) (v : Parsed S) (ts rest : Tokens) : Type 0 where
-    pub is : IsPart k least v ts rest
+  pub record Found (least : ℕ) (v : Parsed S) (ts rest : Tokens) : Type 0 where
+    pub is : IsPart least v ts rest
     pub none : next_joint least rest ≡ None
 
   abbrev pub AreSpelled : PartParser S → Type 0
-  AreSpelled inner = (k : Clause) (least : ℕ) (ts : Tokens) → least ≤ 7
-      → IfSome (inner k least ts) (λ r. Found k least r.0 ts r.1)
+  AreSpelled inner = (least : ℕ) (ts : Tokens) → least ≤ 7
+      → IfSome (inner least ts) (λ r. Found least r.0 ts r.1)
 
   -- what is told of the sides that are read
   pub record AreSidesSpelled (rules : SideRules S) : Type 0 where
-    pub lower : (k : Clause) (p q : ℕ) (s : S) (ts rest : Tokens) → p ≤ q → IsSide k q s ts rest
-        → IsSide k p s ts rest
-    pub operand : (k : Clause) (tight : ℕ) (s : S) (ts rest : Tokens) → IsSide k tight s ts rest
-        → Op k s ts rest
-    pub first : (k : Clause) (inner : PartParser S) → AreSpelled inner → (ts : Tokens)
-        → IfSome (rules.first k inner ts) (λ r. IsSide k 7 r.0 ts r.1)
-    pub enclosed : (k : Clause) (s : S) (ts rest : Tokens) → rules.encloses k s ≡ true
-        → IsSide k 1 s ts (token.Sign sign.Close ∷ rest)
-        → IsSide k 7 s (token.Sign sign.Open ∷ ts) rest
-    pub calculated : (k : Clause) (o : ArithOp) (a b : S) (ts mid rest : Tokens) (t : Token)
-        → IsJoint (joint.Arith o) t → IsSide k (level (joint.Arith o)) a ts (t ∷ mid)
-        → IsSide k (suc (level (joint.Arith o))) b mid rest
-        → IfSome (rules.calculated k o a b) (λ u. IsSide k (level (joint.Arith o)) u ts rest)
+    pub lower : (p q : ℕ) (s : S) (ts rest : Tokens) → p ≤ q → IsSide q s ts rest
+        → IsSide p s ts rest
+    pub operand : (tight : ℕ) (s : S) (ts rest : Tokens) → IsSide tight s ts rest → Op s ts rest
+    pub first : (depth : ℕ) (ts : Tokens)
+        → IfSome (rules.first depth ts) (λ r. IsSide 7 r.0 ts r.1)
+    pub enclosed : (s : S) (ts rest : Tokens) → rules.encloses s ≡ true
+        → IsSide 1 s ts (token.Sign sign.Close ∷ rest)
+        → IsSide 7 s (token.Sign sign.Open ∷ ts) rest
+    pub calculated : (o : ArithOp) (a b : S) (ts mid rest : Tokens) (t : Token)
+        → IsJoint (joint.Arith o) t → IsSide (level (joint.Arith o)) a ts (t ∷ mid)
+        → IsSide (suc (level (joint.Arith o))) b mid rest
+        → IfSome (rules.calculated o a b) (λ u. IsSide (level (joint.Arith o)) u ts rest)
 
-module _ {S : Type 0} (Op : Clause → S → Tokens → Tokens → Type 0)
-    (IsSide : Clause → ℕ → S → Tokens → Tokens → Type 0) (rules : SideRules S)
+module _ {S : Type 0} (Op : S → Tokens → Tokens → Type 0)
+    (IsSide : ℕ → S → Tokens → Tokens → Type 0) (rules : SideRules S)
     (sides : AreSidesSpelled Op IsSide rules) where
-  abbrev Is : Clause → ℕ → Parsed S → Tokens → Tokens → Type 0
-  Is k tight v ts rest = IsPart Op IsSide k tight v ts rest
+  abbrev Is : ℕ → Parsed S → Tokens → Tokens → Type 0
+  Is tight v ts rest = IsPart Op IsSide tight v ts rest
 
-  lower : (k : Clause) (p q : ℕ) (v : Parsed S) (ts rest : Tokens) → p ≤ q → Is k q v ts rest
-      → Is k p v ts rest
-  lower k p q (side s) ts rest h is = sides.lower k p q s ts rest h is
-  lower k p q (truth c) ts rest h is = grind arith
+  lower : (p q : ℕ) (v : Parsed S) (ts rest : Tokens) → p ≤ q → Is q v ts rest → Is p v ts rest
+  lower p q (side s) ts rest h is = sides.lower p q s ts rest h is
+  lower p q (truth c) ts rest h is = grind arith
 
-  closed_spelled : (k : Clause) (v : Parsed S) (ts mid : Tokens) → Is k 1 v ts mid
-      → IfSome (closed_at rules k v mid) (λ r. Is k 7 r.0 (token.Sign sign.Open ∷ ts) r.1)
-  closed_spelled k (side s) ts (token.Sign sign.Close ∷ rest) is =
-      grind (arith, sides.enclosed k s ts rest)
-  closed_spelled k (truth c) ts (token.Sign sign.Close ∷ rest) is =
+  closed_spelled : (v : Parsed S) (ts mid : Tokens) → Is 1 v ts mid
+      → IfSome (closed_at rules v mid) (λ r. Is 7 r.0 (token.Sign sign.Open ∷ ts) r.1)
+  closed_spelled (side s) ts (token.Sign sign.Close ∷ rest) is =
+      grind (arith, sides.enclosed s ts rest)
+  closed_spelled (truth c) ts (token.Sign sign.Close ∷ rest) is =
       a_neg 7 (enclosed_cond is.cond')
-  closed_spelled k v ts mid is = grind arith
+  closed_spelled v ts mid is = grind arith
 
-  negation_spelled : (k : Clause) (v : Parsed S) (ts rest : Tokens) → Is k 4 v ts rest
-      → IfSome (negation_at v rest) (λ r. Is k 7 r.0 (token.Keyword keyword.Not ∷ ts) r.1)
-  negation_spelled k (truth c) ts rest is = a_neg 7 (negation (is.neg (omega arith)))
-  negation_spelled k (side s) ts rest is = tt
+  negation_spelled : (v : Parsed S) (ts rest : Tokens) → Is 4 v ts rest
+      → IfSome (negation_at v rest) (λ r. Is 7 r.0 (token.Keyword keyword.Not ∷ ts) r.1)
+  negation_spelled (truth c) ts rest is = a_neg 7 (negation (is.neg (omega arith)))
+  negation_spelled (side s) ts rest is = tt
 
-  first_spelled : (k : Clause) (inner : PartParser S) → AreSpelled Op IsSide inner → (ts : Tokens)
-      → IfSome (first_term rules k inner ts) (λ r. Is k 7 r.0 ts r.1)
-  first_spelled k inner h ts =
-      grind (arith, bind, map_some, closed_spelled, negation_spelled, sides.first k inner h)
+  first_spelled : (depth : ℕ) (inner : PartParser S) → AreSpelled Op IsSide inner → (ts : Tokens)
+      → IfSome (first_term rules depth inner ts) (λ r. Is 7 r.0 ts r.1)
+  first_spelled depth inner h ts =
+      grind (arith, bind, map_some, closed_spelled, negation_spelled, sides.first depth, h)
 
-  module _ (k : Clause) where
-    -- a part that may be a side of a comparison
-    as_operand : (tight : ℕ) (v : Parsed S) (ts rest : Tokens) → Is k tight v ts rest
-        → IfSome (side_of v) (λ s. Op k s ts rest)
-    as_operand tight (side s) ts rest is = sides.operand k tight s ts rest is
-    as_operand tight (truth c) ts rest is = tt
+  -- a part that may be a side of a comparison
+  as_operand : (tight : ℕ) (v : Parsed S) (ts rest : Tokens) → Is tight v ts rest
+      → IfSome (side_of v) (λ s. Op s ts rest)
+  as_operand tight (side s) ts rest is = sides.operand tight s ts rest is
+  as_operand tight (truth c) ts rest is = tt
 
-    sides_compared : (o : CompareOp) (v w : Option S) (ts mid rest : Tokens) (s : Sign)
-        → IsComparison o s → IfSome v (λ a. Op k a ts (token.Sign s ∷ mid))
-        → IfSome w (λ b. Op k b mid rest)
-        → IfSome (if_both (λ l r. truth (compare o l r)) v w) (λ u. Is k 4 u ts rest)
-    sides_compared o (Some a) (Some b) ts mid rest s is l r = a_neg 4 (comparison l is r)
-    sides_compared o _ _ ts mid rest s is l r = tt
+  sides_compared : (o : CompareOp) (v w : Option S) (ts mid rest : Tokens) (s : Sign)
+      → IsComparison o s → IfSome v (λ a. Op a ts (token.Sign s ∷ mid))
+      → IfSome w (λ b. Op b mid rest)
+      → IfSome (if_both (λ l r. truth (compare o l r)) v w) (λ u. Is 4 u ts rest)
+  sides_compared o (Some a) (Some b) ts mid rest s is l r = a_neg 4 (comparison l is r)
+  sides_compared o _ _ ts mid rest s is l r = tt
 
-    combined_spelled : (j : BinaryOperator) (bound : ℕ) (v w : Parsed S) (ts mid rest : Tokens)
-        (t : Token) → IsJoint j t → level j ≤ bound → Is k bound v ts (t ∷ mid)
-        → Is k (suc (level j)) w mid rest
-        → IfSome (binary_of rules k j v w) (λ u. Is k (level j) u ts rest)
-    combined_spelled (joint.Arith o) bound (side a) (side b) ts mid rest t is h l r =
-        map_some _ _ _ (rules.calculated k o a b)
-        (sides.calculated k o a b ts mid rest t is
-        (sides.lower k (level (joint.Arith o)) bound a ts (t ∷ mid) h l) r) (λ u is. is)
-    combined_spelled (joint.Arith o) bound _ _ ts mid rest t is h l r = tt
-    combined_spelled (joint.Compare o) bound v w ts mid rest t is h l r =
-        sides_compared o (side_of v) (side_of w) ts mid rest is.0 is.2
-        (subst (λ (x : Token). IfSome (side_of v) (λ a. Op k a ts (x ∷ mid))) is.1
-        (as_operand bound v ts (t ∷ mid) l))
-        (as_operand 5 w mid rest r)
-    combined_spelled joint.And bound v w ts mid rest t is h l r =
-        grind (arith, both, conjunction, one_conj)
-    combined_spelled joint.Or bound v w ts mid rest t is h l r = grind (arith, disjunction)
+  combined_spelled : (j : BinaryOperator) (bound : ℕ) (v w : Parsed S) (ts mid rest : Tokens)
+      (t : Token) → IsJoint j t → level j ≤ bound → Is bound v ts (t ∷ mid)
+      → Is (suc (level j)) w mid rest
+      → IfSome (binary_of rules j v w) (λ u. Is (level j) u ts rest)
+  combined_spelled (joint.Arith o) bound (side a) (side b) ts mid rest t is h l r =
+      map_some _ _ _ (rules.calculated o a b)
+      (sides.calculated o a b ts mid rest t is
+      (sides.lower (level (joint.Arith o)) bound a ts (t ∷ mid) h l) r) (λ u is. is)
+  combined_spelled (joint.Arith o) bound _ _ ts mid rest t is h l r = tt
+  combined_spelled (joint.Compare o) bound v w ts mid rest t is h l r =
+      sides_compared o (side_of v) (side_of w) ts mid rest is.0 is.2
+      (subst (λ (x : Token). IfSome (side_of v) (λ a. Op a ts (x ∷ mid))) is.1
+      (as_operand bound v ts (t ∷ mid) l))
+      (as_operand 5 w mid rest r)
+  combined_spelled joint.And bound v w ts mid rest t is h l r =
+      grind (arith, both, conjunction, one_conj)
+  combined_spelled joint.Or bound v w ts mid rest t is h l r = grind (arith, disjunction)
 
   -- a part with all that binary operators of its level join to it
-  record IsTurned (k : Clause) (tight : ℕ) (v : Parsed S) (ts rest : Tokens) : Type 0 where
-    is : Is k tight v ts rest
+  record IsTurned (tight : ℕ) (v : Parsed S) (ts rest : Tokens) : Type 0 where
+    is : Is tight v ts rest
     none : next_joint (suc tight) rest ≡ None
 
   -- what the turns keep: the part at the left, behind which none binds more tightly than bound
-  abbrev GoOn : Clause → (Parsed S → Tokens → Parse (Parsed S)) → ℕ → Type 0
-  GoOn k more least = (bound : ℕ) (v : Parsed S) (ts mid : Tokens) → least ≤ bound
-      → Is k bound v ts mid → next_joint (suc bound) mid ≡ None
-      → IfSome (more v mid) (λ r. Found Op IsSide k least r.0 ts r.1)
+  abbrev GoOn : (Parsed S → Tokens → Parse (Parsed S)) → ℕ → Type 0
+  GoOn more least = (bound : ℕ) (v : Parsed S) (ts mid : Tokens) → least ≤ bound
+      → Is bound v ts mid → next_joint (suc bound) mid ≡ None
+      → IfSome (more v mid) (λ r. Found Op IsSide least r.0 ts r.1)
 
-  module _ (k : Clause) (right : PartParser S) (h : AreSpelled Op IsSide right) where
+  module _ (right : PartParser S) (h : AreSpelled Op IsSide right) where
     turn_spelled : (j : BinaryOperator) (bound : ℕ) (v : Parsed S) (ts mid : Tokens) (t : Token)
-        → IsJoint j t → level j ≤ bound → Is k bound v ts (t ∷ mid)
-        → IfSome (turn_of rules k right j v mid) (λ r. IsTurned k (level j) r.0 ts r.1)
+        → IsJoint j t → level j ≤ bound → Is bound v ts (t ∷ mid)
+        → IfSome (turn_of rules right j v mid) (λ r. IsTurned (level j) r.0 ts r.1)
     turn_spelled j bound v ts mid t is high left =
-        bind _ _ _ (right k (suc (level j)) mid) (h k (suc (level j)) mid (level_below j))
-        (λ r found. map_some _ _ _ (binary_of rules k j v r.0)
-        (combined_spelled k j bound v r.0 ts mid r.1 t is high left found.is)
+        bind _ _ _ (right (suc (level j)) mid) (h (suc (level j)) mid (level_below j))
+        (λ r found. map_some _ _ _ (binary_of rules j v r.0)
+        (combined_spelled j bound v r.0 ts mid r.1 t is high left found.is)
         (λ u part. record { is = part; none = found.none }))
 
     joined_at-spelled : (more : Parsed S → Tokens → Parse (Parsed S)) (least : ℕ)
-        → GoOn k more least → (bound : ℕ) (v : Parsed S) (ts mid : Tokens) → least ≤ bound
-        → Is k bound v ts mid
+        → GoOn more least → (bound : ℕ) (v : Parsed S) (ts mid : Tokens) → least ≤ bound
+        → Is bound v ts mid
         → (o : Option (BinaryOperator × Tokens)) → next_joint least mid ≡ o
         → IfSome o (λ n. Joins least bound mid n.1 n.0)
-        → IfSome (joined_at rules k right more v mid o) (λ r. Found Op IsSide k least r.0 ts r.1)
+        → IfSome (joined_at rules right more v mid o) (λ r. Found Op IsSide least r.0 ts r.1)
     joined_at-spelled more least go bound v ts mid i is None e joins = grind (arith, lower)
     joined_at-spelled more least go bound v ts mid i is (Some n) e joins =
-        bind _ _ _ (turn_of rules k right n.0 v n.1)
+        bind _ _ _ (turn_of rules right n.0 v n.1)
         (turn_spelled n.0 bound v ts n.1 joins.token joins.is joins.high
-        (subst (λ (x : Tokens). Is k bound v ts x) joins.front is))
+        (subst (λ (x : Tokens). Is bound v ts x) joins.front is))
         (λ r turned. go (level n.0) r.0 ts r.1 joins.low turned.is turned.none)
 
-    joined_spelled : (least turns : ℕ) → GoOn k (joined rules k right least turns) least
+    joined_spelled : (least turns : ℕ) → GoOn (joined rules right least turns) least
     unfolding joined
     joined_spelled least zero bound v ts mid i is none = tt
     joined_spelled least (suc turns) bound v ts mid i is none =
-        joined_at-spelled (joined rules k right least turns) least (joined_spelled least turns)
+        joined_at-spelled (joined rules right least turns) least (joined_spelled least turns)
         bound v ts mid i is (next_joint least mid) refl (next_joins least bound mid none)
 
   pub part_spelled : (depth : ℕ) → AreSpelled Op IsSide (part_at rules depth)
   unfolding part_at
-  part_spelled zero k least ts i = tt
-  part_spelled (suc depth) k least ts i =
-      bind _ _ _ (first_term rules k (part_at rules depth) ts)
-      (first_spelled k (part_at rules depth) (part_spelled depth) ts)
-      (λ p is. joined_spelled k (part_at rules depth) (part_spelled depth) least
+  part_spelled zero least ts i = tt
+  part_spelled (suc depth) least ts i =
+      bind _ _ _ (first_term rules depth (part_at rules depth) ts)
+      (first_spelled depth (part_at rules depth) (part_spelled depth) ts)
+      (λ p is. joined_spelled (part_at rules depth) (part_spelled depth) least
       (suc (length p.1)) 7 p.0 ts p.1 i is
       (tighter 7 8 p.1 (omega arith) (none_above_products p.1)))
 
@@ -222,98 +217,104 @@ pub record AsExpr (tight : ℕ) (e : Expression) (ts rest : Tokens) : Type 0 whe
   pub term : 6 ≤ tight → IsTerm e ts rest
   pub factor : 7 ≤ tight → IsFactor e ts rest
 
--- in HAVING no expression but a column or a number, and elsewhere no call
-abbrev pub AsSide : Clause → ℕ → QueryOperand → Tokens → Tokens → Type 0
-AsSide clause.OfRows tight (plain e) ts rest = AsExpr tight e ts rest
-AsSide clause.OfRows tight (text t) ts rest = ts ≡ token.Text t ∷ rest
-AsSide clause.OfRows tight (call c) ts rest = ⊥
-AsSide clause.OfGroups tight s ts rest = IsGroupOperand s ts rest
+abbrev pub AsRow : ℕ → QueryOperand → Tokens → Tokens → Type 0
+AsRow tight (plain e) ts rest = AsExpr tight e ts rest
+AsRow tight (text t) ts rest = ts ≡ token.Text t ∷ rest
+AsRow tight (call c) ts rest = ⊥
 
-abbrev pub AsTerm : Clause → ℕ → Parsed QueryOperand → Tokens → Tokens → Type 0
-AsTerm k tight v ts rest = IsPart operands_in AsSide k tight v ts rest
-
-abbrev pub AreTerms : OperandParser → Type 0
-AreTerms inner = AreSpelled operands_in AsSide inner
+abbrev pub AreRows : OperandParser → Type 0
+AreRows inner = AreSpelled IsOperand AsRow inner
 
 a_factor : (tight : ℕ) {e : Expression} {ts rest : Tokens} → IsFactor e ts rest
     → AsExpr tight e ts rest
 a_factor tight f =
     record { expr = one_term (one_factor f); term = λ k. one_factor f; factor = λ k. f }
 
+pub dotted_spelled : (name : List ℕ) (ts : Tokens)
+    → IsColumn (dotted name ts).0 (token.Name name ∷ ts) (dotted name ts).1
+dotted_spelled name ts = grind (arith, qualified, unqualified)
+
+row_side_at-spelled : (ts : Tokens) → IfSome (row_side_at ts) (λ r. AsRow 7 r.0 ts r.1)
+row_side_at-spelled (token.Name w ∷ ts) = a_factor 7 (a_column (dotted_spelled w ts))
+row_side_at-spelled (token.Number n ∷ ts) = a_factor 7 a_number
+row_side_at-spelled (token.Sign sign.Minus ∷ token.Number n ∷ ts) = a_factor 7 negative
+row_side_at-spelled ts = grind arith
+
+row_enclosed : (s : QueryOperand) (ts rest : Tokens) → is_some (plain_side s) ≡ true
+    → AsRow 1 s ts (token.Sign sign.Close ∷ rest) → AsRow 7 s (token.Sign sign.Open ∷ ts) rest
+row_enclosed (plain e) ts rest h is = a_factor 7 (enclosed is.expr)
+row_enclosed s ts rest h is = grind arith
+
+row_sides-spelled : AreSidesSpelled IsOperand AsRow row_sides
+row_sides-spelled = record {
+  lower = λ p q s ts rest h is. grind arith;
+  operand = λ tight s ts rest is. grind (arith, an_expr, text, a_string);
+  first = λ depth. row_side_at-spelled;
+  enclosed = row_enclosed;
+  calculated = λ o a b ts mid rest t is l r.
+      grind (arith, sum, difference, arithmetic, product, one_term);
+}
+
+pub row_spelled : (depth : ℕ) → AreRows (part_at row_sides depth)
+row_spelled depth = part_spelled IsOperand AsRow row_sides row_sides-spelled depth
+
+-- ---- calls, and the sides of HAVING
+
 count_spelled : (w : List ℕ) (ts : Tokens) → aggregate_of w ≡ Some agg.Count
     → IfSome (count_at ts) (λ r. IsAgg r.0 (token.Name w ∷ token.Sign sign.Open ∷ ts) r.1)
 count_spelled w ts h = grind (arith, count_rows, count_star)
 
-over_spelled : (inner : OperandParser) → AreTerms inner → (w : List ℕ) (op : AggOp) (ts : Tokens)
-    → aggregate_of w ≡ Some op → has_argument op ≡ true
-    → IfSome (call_over op (inner clause.OfRows 5 ts))
+over_spelled : (inner : OperandParser) → AreRows inner → (w : List ℕ) (op : AggOp) (ts : Tokens)
+    → aggregate_of w ≡ Some op → has_argument op ≡ true → IfSome (call_over op (inner 5 ts))
     (λ r. IsAgg r.0 (token.Name w ∷ token.Sign sign.Open ∷ ts) r.1)
-over_spelled inner h w op ts known has =
-    bind _ _ _ (inner clause.OfRows 5 ts) (h clause.OfRows 5 ts (omega arith))
+over_spelled inner h w op ts known has = bind _ _ _ (inner 5 ts) (h 5 ts (omega arith))
     (λ p found. grind (arith, called_over, known, has, found.is))
 
-pub call_spelled : (inner : OperandParser) → AreTerms inner
+call_spelled : (inner : OperandParser) → AreRows inner
     → (w : List ℕ) (op : AggOp) (ts : Tokens) → aggregate_of w ≡ Some op
     → IfSome (call_at inner op ts) (λ r. IsAgg r.0 (token.Name w ∷ token.Sign sign.Open ∷ ts) r.1)
 call_spelled inner h w op ts known = grind (arith, count_spelled, over_spelled)
 
 -- what is called stands behind a parenthesis
-pub called_is : (w : List ℕ) (ts : Tokens) (c : AggOp × Tokens) → called w ts ≡ Some c
+called_is : (w : List ℕ) (ts : Tokens) (c : AggOp × Tokens) → called w ts ≡ Some c
     → (ts ≡ token.Sign sign.Open ∷ c.1) × (aggregate_of w ≡ Some c.0)
 called_is w x1 c e = grind arith
 
--- a call that is found at a word
-pub word_called : (inner : OperandParser) → AreTerms inner
-    → (w : List ℕ) (ts : Tokens) (c : AggOp × Tokens) → called w ts ≡ Some c
-    → IfSome (call_at inner c.0 c.1) (λ r. IsAgg r.0 (token.Name w ∷ ts) r.1)
-word_called inner h w ts c e =
+-- a call that is found at the front
+pub called_spelled : (n : ℕ) (ts : Tokens) (c : AggOp × Tokens) → call_front ts ≡ Some c
+    → IfSome (call_at (part_at row_sides n) c.0 c.1) (λ r. IsAgg r.0 ts r.1)
+called_spelled n (token.Name w ∷ ts) c e =
     let is = called_is w ts c e in
-    subst (λ (x : Tokens). IfSome (call_at inner c.0 c.1) (λ r. IsAgg r.0 (token.Name w ∷ x) r.1))
-    (sym is.0) (call_spelled inner h w c.0 c.1 is.1)
+    subst (λ (x : Tokens). IfSome (call_at (part_at row_sides n) c.0 c.1)
+    (λ r. IsAgg r.0 (token.Name w ∷ x) r.1)) (sym is.0)
+    (call_spelled (part_at row_sides n) (row_spelled n) w c.0 c.1 is.1)
+called_spelled n _ c e = absurd cc
 
-pub dotted_spelled : (name : List ℕ) (ts : Tokens)
-    → IsColumn (dotted name ts).0 (token.Name name ∷ ts) (dotted name ts).1
-dotted_spelled name ts = grind (arith, qualified, unqualified)
+abbrev pub AsGroup : ℕ → QueryOperand → Tokens → Tokens → Type 0
+AsGroup tight s ts rest = IsGroupOperand s ts rest
 
-column_spelled : (k : Clause) (w : List ℕ) (ts : Tokens)
-    → AsSide k 7 (column_at w ts).0 (token.Name w ∷ ts) (column_at w ts).1
-column_spelled clause.OfRows w ts = a_factor 7 (a_column (dotted_spelled w ts))
-column_spelled clause.OfGroups w ts = a_key (dotted_spelled w ts)
+group_row : (ts : Tokens) → IfSome (row_side_at ts) (λ r. IsGroupOperand r.0 ts r.1)
+group_row (token.Name w ∷ ts) = a_key (dotted_spelled w ts)
+group_row ts = grind (arith, a_constant, a_negative, a_text)
 
-word_spelled : (k : Clause) (inner : OperandParser) → AreTerms inner → (w : List ℕ) (ts : Tokens)
-    → IfSome (word_at k inner w ts) (λ r. AsSide k 7 r.0 (token.Name w ∷ ts) r.1)
-word_spelled clause.OfRows inner h w ts = column_spelled clause.OfRows w ts
-word_spelled clause.OfGroups inner h w ts = go (called w ts) refl
+group_side : (n : ℕ) (ts : Tokens)
+    → IfSome (group_sides.first n ts) (λ r. IsGroupOperand r.0 ts r.1)
+group_side n ts = go (call_front ts) refl
   where
-    go : (o : Option (AggOp × Tokens)) → called w ts ≡ o
-        → IfSome (call_or_column inner w ts o)
-        (λ r. AsSide clause.OfGroups 7 r.0 (token.Name w ∷ ts) r.1)
-    go None e = column_spelled clause.OfGroups w ts
-    go (Some c) e = grind (arith, map_some, a_call, word_called inner h w ts c e)
+    go : (o : Option (AggOp × Tokens)) → call_front ts ≡ o
+        → IfSome (call_or_row (part_at row_sides n) ts o) (λ r. IsGroupOperand r.0 ts r.1)
+    go None e = group_row ts
+    go (Some c) e = map_some _ _ _ (call_at (part_at row_sides n) c.0 c.1)
+        (called_spelled n ts c e) (λ r is. a_call is)
 
-side_spelled : (k : Clause) (inner : OperandParser) → AreTerms inner → (ts : Tokens)
-    → IfSome (side_at k inner ts) (λ r. AsSide k 7 r.0 ts r.1)
-side_spelled k inner h (token.Name w ∷ ts) = word_spelled k inner h w ts
-side_spelled clause.OfRows inner h (token.Number n ∷ ts) = a_factor 7 a_number
-side_spelled clause.OfRows inner h (token.Sign sign.Minus ∷ token.Number n ∷ ts) =
-    a_factor 7 negative
-side_spelled k inner h ts = grind (arith, a_constant, a_negative, a_text)
-
-side_enclosed : (k : Clause) (s : QueryOperand) (ts rest : Tokens) → encloses k s ≡ true
-    → AsSide k 1 s ts (token.Sign sign.Close ∷ rest) → AsSide k 7 s (token.Sign sign.Open ∷ ts) rest
-side_enclosed clause.OfRows (plain e) ts rest h is = a_factor 7 (enclosed is.expr)
-side_enclosed k s ts rest h is = grind arith
-
--- what is told of a query's sides: arithmetic is of expressions, and HAVING hasn't any
-query_sides-spelled : AreSidesSpelled operands_in AsSide query_sides
-query_sides-spelled = record {
-  lower = λ k p q s ts rest h is. grind arith;
-  operand = λ k tight s ts rest is. grind (arith, an_expr, text, a_string);
-  first = side_spelled;
-  enclosed = side_enclosed;
-  calculated = λ k o a b ts mid rest t is l r.
-      grind (arith, sum, difference, arithmetic, product, one_term);
+group_sides-spelled : AreSidesSpelled IsGroupOperand AsGroup group_sides
+group_sides-spelled = record {
+  lower = λ p q s ts rest h is. is;
+  operand = λ tight s ts rest is. is;
+  first = group_side;
+  enclosed = λ s ts rest is. absurd cc;
+  calculated = λ o a b ts mid rest t is l r. tt;
 }
 
-pub term_spelled : (depth : ℕ) → AreTerms (term_at depth)
-term_spelled depth = part_spelled operands_in AsSide query_sides query_sides-spelled depth
+pub group_spelled : (depth : ℕ) → AreSpelled IsGroupOperand AsGroup (part_at group_sides depth)
+group_spelled depth = part_spelled IsGroupOperand AsGroup group_sides group_sides-spelled depth

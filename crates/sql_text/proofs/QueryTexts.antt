@@ -1,15 +1,14 @@
 -- A query is read exactly where one is spelled.
-use Rattle.sql_text.proofs.Imports.{◌≡◌, ℕ, zero, suc, ◌≤◌, Bool, true, false, cond, List, [], ◌∷◌, length, Option, Some, None, option_and_then, option_map, IfSome, refl, ap, ◌∙◌, arith, codes, bytes_eq, IfSome_then, bytes_eq-Decides, AggOp, ColumnRef, Join, NamePair, OrderKey, Span, TableRef, Expression, CallTree, Condition, ItemWhat, plain_item, ItemTree, Selection, listed, QueryTree, Tokens, IsExpr, IsColumn, unqualified, qualified, one_term, sum, difference, IsTerm, one_factor, product, IsFactor, a_column, a_number, negative, enclosed, IsAgg, IsCond, AreListed, last_one as the_last, one_more as and_more, IsWhat, an_expression, an_agg, IsSelectItem, unnamed, named, IsSelection, all_columns, some_items, IsTableRef, named_table, numbers_table, IsPair, equal_columns, IsJoined, table_on, IsJoin, no_join, join_of as joined_with, inner_join, IsFilter, AreKeys, IsHaving, IsOrderKey, unstated, ascending, descending, IsOrder, IsLimit, source_of, shaping_of, IsQuery, select_query, IsText, bare, with_semicolon, Token, Clause, side, plain, query_sides, Parse, next_joint, plain_operand, condition_of, call_at, term_at, list_behind, list_at, behind, alias_at, call_front, what_by, what_at, item_of, with_alias, item_at, items_at, selection_at, count_behind, table_named, table_at, from_at, column_ref_at, after_equal, pair_behind, pair_at, on_at, joined_table_at, some_join, join_at, condition_at, clause_at, keys_at, direction_at, order_key_at, order_at, limit_at, is_text_end, QueryTail, ending_at, query_of, query_at, AreBy, IsClause, IsGroupOperand, IsNumber, IsOperand, IsSpan, Separator, by_at, clause_behind, clause_of, filter_at, having_at, listed_by, no_clause, number_parse, number_of, offset_at, reads, span_at, span_of, span_with, text_query}
+use Rattle.sql_text.proofs.Imports.{◌≡◌, ℕ, zero, suc, ◌≤◌, Bool, true, false, cond, List, [], ◌∷◌, length, Option, Some, None, option_and_then, option_map, IfSome, refl, ap, ◌∙◌, arith, codes, bytes_eq, IfSome_then, bytes_eq-Decides, AggOp, ColumnRef, Join, NamePair, OrderKey, Span, TableRef, Expression, CallTree, Condition, ItemWhat, plain_item, ItemTree, Selection, listed, QueryTree, Tokens, IsExpr, IsColumn, unqualified, qualified, one_term, sum, difference, IsTerm, one_factor, product, IsFactor, a_column, a_number, negative, enclosed, IsAgg, IsCond, AreListed, last_one as the_last, one_more as and_more, IsWhat, an_expression, an_agg, IsSelectItem, unnamed, named, IsSelection, all_columns, some_items, IsTableRef, named_table, numbers_table, IsPair, equal_columns, IsJoined, table_on, IsJoin, no_join, join_of as joined_with, inner_join, IsFilter, AreKeys, IsHaving, IsOrderKey, unstated, ascending, descending, IsOrder, IsLimit, source_of, shaping_of, IsQuery, select_query, IsText, bare, with_semicolon, Token, SideRules, QueryOperand, side, plain, row_sides, group_sides, part_at, Parse, next_joint, plain_operand, condition_of, call_at, list_behind, list_at, behind, alias_at, call_front, what_by, what_at, item_of, with_alias, item_at, items_at, selection_at, count_behind, table_named, table_at, from_at, column_ref_at, after_equal, pair_behind, pair_at, on_at, joined_table_at, some_join, join_at, condition_at, clause_at, keys_at, direction_at, order_key_at, order_at, limit_at, is_text_end, QueryTail, ending_at, query_of, query_at, AreBy, IsClause, IsGroupOperand, IsNumber, IsOperand, IsSpan, Separator, by_at, clause_behind, clause_of, filter_at, having_at, listed_by, no_clause, number_parse, number_of, offset_at, reads, span_at, span_of, span_with, text_query}
 use Rattle.query_model.specs.declared.query.TableRef.TheVariants as table
 use Rattle.sql_grammar.specs.declared.Token.TheVariants as token
 use Rattle.sql_grammar.specs.declared.Keyword.TheVariants as keyword
 use Rattle.sql_grammar.specs.declared.Sign.TheVariants as sign
 use Rattle.sql_text.specs.declared.lists.Separator.TheVariants as between
-use Rattle.sql_text.specs.declared.term.Clause.TheVariants as clause
-use Rattle.sql_text.proofs.Behind.{IsShorter, operands_in, operand_shorter, expr_shorter, cond_shorter, column_shorter, item_shorter, selection_shorter, table_shorter, pair_shorter, joined_shorter, order_key_shorter, list_shorter}
+use Rattle.sql_text.proofs.Behind.{IsShorter, operand_shorter, expr_shorter, cond_shorter, column_shorter, item_shorter, selection_shorter, table_shorter, pair_shorter, joined_shorter, order_key_shorter, list_shorter}
 use Rattle.sql_text.proofs.Turns.{ends_name, tighter, deeper}
-use Rattle.sql_text.proofs.PartsFound.{expr_found, cond_found, query_sides-read, Calls, agg_found, nothing_called, dotted_found}
-use Rattle.sql_text.proofs.PartsSpelled.{bind, map_some, term_spelled, word_called, dotted_spelled}
+use Rattle.sql_text.proofs.PartsFound.{AreRead, expr_found, cond_found, row_sides-read, group_sides-read, Calls, agg_found, nothing_called, dotted_found}
+use Rattle.sql_text.proofs.PartsSpelled.{bind, map_some, row_spelled, group_spelled, called_spelled, dotted_spelled}
 
 -- ---- what is spelled is read
 
@@ -56,9 +55,9 @@ module _ {X : Type 0} (Is : X → Tokens → Tokens → Type 0) (s : Separator)
 
 plain_found : (n : ℕ) {e : Expression} {ts rest : Tokens} → IsExpr e ts rest → length ts ≤ n
     → ends_name rest ≡ true → next_joint 5 rest ≡ None
-    → term_at n clause.OfRows 5 ts ≡ Some (side (plain e), rest)
+    → part_at row_sides n 5 ts ≡ Some (side (plain e), rest)
 plain_found n {e = e} {ts = ts} {rest = rest} is l ends none =
-    deeper query_sides n l (expr_shorter is)
+    deeper row_sides n l (expr_shorter is)
     (λ m k. expr_found is m 5 (omega arith) ends (tighter 5 6 rest (omega arith) none) k) none
 
 -- whether the tokens begin with a star
@@ -282,21 +281,22 @@ order_found {ts = ts} {rest = rest} is h =
     (λ x ts rest k. order_key_shorter k) EndsKey (λ ts. refl)
     (λ x ts rest is ends. order_key_found is ends) are e.no_direction e.no_comma) is (omega arith)
 
-cond_read : (n : ℕ) (k : Clause) {c : Condition} {ts rest : Tokens}
-    → IsCond (operands_in k) c ts rest → length ts ≤ n → Ends rest
-    → condition_at n k ts ≡ Some (c, rest)
-cond_read n k {c = c} {ts = ts} {rest = rest} is l ends =
-    ap (option_and_then (λ p. option_map (λ c. (c, p.1)) (condition_of p.0)))
-    (deeper query_sides n l (cond_shorter (operands_in k) (operand_shorter k) is)
-    (λ m i. cond_found query_sides k (operands_in k) (query_sides-read k) is m 1 (omega arith)
-    ends.name (tighter 1 2 rest (omega arith) ends.joint) i) ends.joint)
+module _ (rules : SideRules QueryOperand) (Op : QueryOperand → Tokens → Tokens → Type 0)
+    (sides : AreRead rules Op) where
+  cond_read : (n : ℕ) {c : Condition} {ts rest : Tokens} → IsCond Op c ts rest → length ts ≤ n
+      → Ends rest → condition_at rules n ts ≡ Some (c, rest)
+  cond_read n {c = c} {ts = ts} {rest = rest} is l ends =
+      ap (option_and_then (λ p. option_map (λ c. (c, p.1)) (condition_of p.0)))
+      (deeper rules n l (cond_shorter Op sides.shorter is)
+      (λ m i. cond_found rules Op sides is m 1 (omega arith)
+      ends.name (tighter 1 2 rest (omega arith) ends.joint) i) ends.joint)
 
 having_found : {c : Option Condition} {ts rest : Tokens} → IsHaving c ts rest → (n : ℕ)
     → length ts ≤ n → rank rest ≤ 2 → IsFound (having_at n ts) c ts rest 3
 having_found {rest = rest} is n l h =
-    clause_found between.Having None Some (IsCond IsGroupOperand) (condition_at n clause.OfGroups)
-    2 n rest (λ ts. refl) h
-    (λ c ts is l. cond_read n clause.OfGroups is l (ends rest (omega arith))) is l
+    clause_found between.Having None Some (IsCond IsGroupOperand) (condition_at group_sides n)
+    2 n rest (λ ts. refl) h (λ c ts is l.
+    cond_read group_sides IsGroupOperand group_sides-read n is l (ends rest (omega arith))) is l
 
 keys_found : {cs : List ColumnRef} {ts rest : Tokens} → AreKeys cs ts rest → rank rest ≤ 3
     → IsFound (keys_at ts) cs ts rest 4
@@ -310,9 +310,9 @@ keys_found {ts = ts} {rest = rest} is h =
 filter_found : {c : Option Condition} {ts rest : Tokens} → IsFilter c ts rest → (n : ℕ)
     → length ts ≤ n → rank rest ≤ 4 → IsFound (filter_at n ts) c ts rest 5
 filter_found {rest = rest} is n l h =
-    clause_found between.Where None Some (IsCond IsOperand) (condition_at n clause.OfRows)
-    4 n rest (λ ts. refl) h
-    (λ c ts is l. cond_read n clause.OfRows is l (ends rest (omega arith))) is l
+    clause_found between.Where None Some (IsCond IsOperand) (condition_at row_sides n)
+    4 n rest (λ ts. refl) h (λ c ts is l.
+    cond_read row_sides IsOperand row_sides-read n is l (ends rest (omega arith))) is l
 
 join_found : {j : Option Join} {ts rest : Tokens} → IsJoin j ts rest → rank rest ≤ 5
     → IsFound (join_at ts) j ts rest 6
@@ -335,7 +335,7 @@ module _ where
       → length rest ≤ length ts
   filter_within no_clause = omega arith
   filter_within (clause_of c) =
-      omega (arith, cond_shorter IsOperand (operand_shorter clause.OfRows) c)
+      omega (arith, cond_shorter IsOperand operand_shorter c)
 
   keys_within : {cs : List ColumnRef} {ts rest : Tokens} → AreKeys cs ts rest
       → length rest ≤ length ts
@@ -390,19 +390,15 @@ module _ {X : Type 0} (Is : X → Tokens → Tokens → Type 0) (s : Separator)
 
 -- ---- items
 
-called_spelled : (n : ℕ) (ts : Tokens) (c : AggOp × Tokens) → call_front ts ≡ Some c
-    → IfSome (call_at (term_at n) c.0 c.1) (λ r. IsAgg r.0 ts r.1)
-called_spelled n (token.Name w ∷ ts) c e = word_called (term_at n) (term_spelled n) w ts c e
-called_spelled n _ c e = absurd cc
-
 what_spelled : (n : ℕ) (ts : Tokens) → IfSome (what_at n ts) (λ r. IsWhat r.0 ts r.1)
 what_spelled n ts = go (call_front ts) refl
   where
     go : (o : Option (AggOp × Tokens)) → call_front ts ≡ o
         → IfSome (what_by n ts o) (λ r. IsWhat r.0 ts r.1)
-    go None e = grind (arith, term_spelled n clause.OfRows 5 ts (omega arith), an_expression)
+    go None e = grind (arith, row_spelled n 5 ts (omega arith), an_expression)
     go (Some c) e =
-        map_some _ _ _ (call_at (term_at n) c.0 c.1) (called_spelled n ts c e) (λ r is. an_agg is)
+        map_some _ _ _ (call_at (part_at row_sides n) c.0 c.1) (called_spelled n ts c e)
+        (λ r is. an_agg is)
 
 alias_spelled : (w : ItemWhat) (ts mid : Tokens) → IsWhat w ts mid
     → IfSome (with_alias w (alias_at mid)) (λ r. IsSelectItem r.0 ts r.1)
@@ -465,9 +461,13 @@ join_spelled _ = grind (arith, no_join)
 
 -- ---- conditions
 
-cond_spelled : (n : ℕ) (k : Clause) (ts : Tokens)
-    → IfSome (condition_at n k ts) (λ r. IsCond (operands_in k) r.0 ts r.1)
-cond_spelled n k ts = grind (arith, bind, map_some, term_spelled n k 1 ts (omega arith))
+filter_parsed : (n : ℕ) (ts : Tokens)
+    → IfSome (condition_at row_sides n ts) (λ r. IsCond IsOperand r.0 ts r.1)
+filter_parsed n ts = grind (arith, bind, map_some, row_spelled n 1 ts (omega arith))
+
+having_parsed : (n : ℕ) (ts : Tokens)
+    → IfSome (condition_at group_sides n ts) (λ r. IsCond IsGroupOperand r.0 ts r.1)
+having_parsed n ts = grind (arith, bind, map_some, group_spelled n 1 ts (omega arith))
 
 -- ---- clauses
 
@@ -498,13 +498,13 @@ by_spelled Is read each _ = grind arith
 
 filter_spelled : (n : ℕ) (ts : Tokens) → IfSome (filter_at n ts) (λ r. IsFilter r.0 ts r.1)
 filter_spelled n ts =
-    clause_spelled between.Where None Some (IsCond IsOperand) (condition_at n clause.OfRows)
-    (cond_spelled n clause.OfRows) ts
+    clause_spelled between.Where None Some (IsCond IsOperand) (condition_at row_sides n)
+    (filter_parsed n) ts
 
 having_spelled : (n : ℕ) (ts : Tokens) → IfSome (having_at n ts) (λ r. IsHaving r.0 ts r.1)
 having_spelled n ts =
     clause_spelled between.Having None Some (IsCond IsGroupOperand)
-    (condition_at n clause.OfGroups) (cond_spelled n clause.OfGroups) ts
+    (condition_at group_sides n) (having_parsed n) ts
 
 keys_spelled : (ts : Tokens) → IfSome (keys_at ts) (λ r. AreKeys r.0 ts r.1)
 keys_spelled ts =

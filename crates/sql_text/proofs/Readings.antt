@@ -1,5 +1,5 @@
 -- What the reading of a text's tokens says of the text.
-use Rattle.sql_text.proofs.Imports.{◌≡◌, ℕ, ◌≤◌, false, List, length, Some, None, sym, ◌∙◌, arith, nat_lt, same_Some, none-some, Query, tokens_of, query_tree, Tokens, IsText, Spells, ParseError, ParseFails, text_query, token_refusal, early_refusal, IsRefused, IsReadFrom, parse_refusal_of}
+use Rattle.sql_text.proofs.Imports.{◌≡◌, ℕ, ◌≤◌, List, length, Some, None, sym, ◌∙◌, arith, same_Some, none-some, Query, tokens_of, query_tree, Tokens, IsText, Spells, ParseError, ParseFails, text_query, token_refusal, early_refusal, IsRefused, IsReadFrom, parse_refusal_of}
 use Rattle.sql_text.proofs.QueryTexts.{text_found, text_spelled}
 
 -- the tokens of a spelled text are spelled
@@ -11,9 +11,6 @@ spelled_at q text ts are s = grind arith
 read_at : (q : Query) (text : List ℕ) (ts : Tokens) → tokens_of text ≡ Some ts → Spells q text
     → text_query (length ts) ts ≡ Some (query_tree q)
 read_at q text ts are s = text_found (spelled_at q text ts are s) (length ts) (omega arith)
-
-not_long : (n : ℕ) → n ≤ 65536 → nat_lt 65536 n ≡ false
-not_long n h = grind arith
 
 early_is : (text : List ℕ) (ts : Tokens) → length text ≤ 65536 → tokens_of text ≡ Some ts
     → early_refusal text ≡ token_refusal ts

@@ -1,5 +1,5 @@
 -- One turn of the reading of parts, and when it ends.
-use Rattle.sql_text.proofs.Imports.{◌≡◌, ℕ, zero, suc, ◌-◌, ◌<◌, ◌≤◌, Bool, true, false, List, ◌∷◌, length, Option, Some, None, option_and_then, refl, ap, ◌∙◌, arith, Token, BinaryOperator, ParseError, ParseFails, Clause, Parsed, PartParser, SideRules, joint_of, level, if_level, next_joint, binary_of, first_term, turn_of, joined, part_at}
+use Rattle.sql_text.proofs.Imports.{◌≡◌, ℕ, zero, suc, ◌-◌, ◌<◌, ◌≤◌, Bool, true, false, List, ◌∷◌, length, Option, Some, None, option_and_then, refl, ap, ◌∙◌, arith, Token, BinaryOperator, ParseError, ParseFails, Parsed, PartParser, SideRules, joint_of, level, if_level, next_joint, binary_of, first_term, turn_of, joined, part_at}
 use Rattle.sql_grammar.specs.declared.Token.TheVariants as token
 use Rattle.sql_grammar.specs.declared.Sign.TheVariants as sign
 
@@ -35,86 +35,83 @@ some_turns (suc k) h = (k, refl)
 
 module _ {S : Type 0} (rules : SideRules S) where
   -- The reading of the part at ts goes on behind the part v, at rest.
-  pub record Goes (k : Clause) (n least : ℕ) (v : Parsed S) (ts rest : List Token) : Type 0 where
+  pub record Goes (n least : ℕ) (v : Parsed S) (ts rest : List Token) : Type 0 where
     pub turns : ℕ
     pub enough : length rest < turns
-    pub goes : part_at rules (suc n) k least ts
-        ≡ joined rules k (part_at rules n) least turns v rest
+    pub goes : part_at rules (suc n) least ts ≡ joined rules (part_at rules n) least turns v rest
 
-  pub from_first : {k : Clause} {n least : ℕ} {v : Parsed S} {ts rest : List Token}
-      → first_term rules k (part_at rules n) ts ≡ Some (v, rest) → Goes k n least v ts rest
+  pub from_first : {n least : ℕ} {v : Parsed S} {ts rest : List Token}
+      → first_term rules n (part_at rules n) ts ≡ Some (v, rest) → Goes n least v ts rest
   unfolding part_at
-  from_first {k = k} {n = n} {least = least} {rest = rest} h = grind arith
+  from_first {n = n} {least = least} {rest = rest} h = grind arith
 
-  pub end_of_turns : (k : Clause) (right : PartParser S) (least turns : ℕ) (v : Parsed S)
+  pub end_of_turns : (right : PartParser S) (least turns : ℕ) (v : Parsed S)
       (ts : List Token) → 0 < turns → next_joint least ts ≡ None
-      → joined rules k right least turns v ts ≡ Some (v, ts)
+      → joined rules right least turns v ts ≡ Some (v, ts)
   unfolding joined
-  end_of_turns k right least turns v ts h none = grind arith
+  end_of_turns right least turns v ts h none = grind arith
 
-  pub turn : (k : Clause) (right : PartParser S) (least n turns : ℕ) (j : BinaryOperator)
+  pub turn : (right : PartParser S) (least n turns : ℕ) (j : BinaryOperator)
       (v u : Parsed S) (ts mid rest : List Token) → n ≡ suc turns
-      → next_joint least ts ≡ Some (j, mid) → turn_of rules k right j v mid ≡ Some (u, rest)
-      → joined rules k right least n v ts ≡ joined rules k right least turns u rest
+      → next_joint least ts ≡ Some (j, mid) → turn_of rules right j v mid ≡ Some (u, rest)
+      → joined rules right least n v ts ≡ joined rules right least turns u rest
   unfolding joined
-  turn k right least n turns j v u ts mid rest is next turned = grind arith
+  turn right least n turns j v u ts mid rest is next turned = grind arith
 
-  pub no_turn : (k : Clause) (right : PartParser S) (least turns : ℕ) (j : BinaryOperator)
+  pub no_turn : (right : PartParser S) (least turns : ℕ) (j : BinaryOperator)
       (v : Parsed S) (ts mid : List Token) → 0 < turns → next_joint least ts ≡ Some (j, mid)
-      → turn_of rules k right j v mid ≡ None → joined rules k right least turns v ts ≡ None
+      → turn_of rules right j v mid ≡ None → joined rules right least turns v ts ≡ None
   unfolding joined
-  no_turn k right least turns j v ts mid h next none = grind arith
+  no_turn right least turns j v ts mid h next none = grind arith
 
-  pub no_turns : (k : Clause) (right : PartParser S) (least n : ℕ) (v : Parsed S) (ts : List Token)
-      → n ≡ 0 → joined rules k right least n v ts ≡ None
+  pub no_turns : (right : PartParser S) (least n : ℕ) (v : Parsed S) (ts : List Token)
+      → n ≡ 0 → joined rules right least n v ts ≡ None
   unfolding joined
-  no_turns k right least n v ts is = ap (λ n. joined rules k right least n v ts) is
+  no_turns right least n v ts is = ap (λ n. joined rules right least n v ts) is
 
   -- the same at any depth that is enough, where no binary operator follows
-  pub deeper : {k : Clause} (n : ℕ) {least : ℕ} {v : Parsed S} {ts rest : List Token}
+  pub deeper : (n : ℕ) {least : ℕ} {v : Parsed S} {ts rest : List Token}
       → length ts ≤ n → length rest < length ts
-      → ((m : ℕ) → length ts ≤ suc m → Goes k m least v ts rest) → next_joint least rest ≡ None
-      → part_at rules n k least ts ≡ Some (v, rest)
+      → ((m : ℕ) → length ts ≤ suc m → Goes m least v ts rest) → next_joint least rest ≡ None
+      → part_at rules n least ts ≡ Some (v, rest)
   deeper zero h shorter goes none = absurd (omega arith)
-  deeper {k = k} (suc m) {least = least} {v = v} {rest = rest} h shorter goes none =
+  deeper (suc m) {least = least} {v = v} {rest = rest} h shorter goes none =
       let g = goes m h in
-      g.goes ∙ end_of_turns k (part_at rules m) least g.turns v rest (omega (arith, g.enough)) none
+      g.goes ∙ end_of_turns (part_at rules m) least g.turns v rest (omega (arith, g.enough)) none
 
   -- The part at the left, and what the binary operator behind it joins to it.
-  pub onward : {k : Clause} {n least : ℕ} (j : BinaryOperator) {t : Token} {v w u : Parsed S}
-      {ts mid rest : List Token} → Goes k n least v ts (t ∷ mid) → joint_of t ≡ Some j
+  pub onward : {n least : ℕ} (j : BinaryOperator) {t : Token} {v w u : Parsed S}
+      {ts mid rest : List Token} → Goes n least v ts (t ∷ mid) → joint_of t ≡ Some j
       → least ≤ level j → length (t ∷ mid) < length ts → length ts ≤ suc n
       → length rest < length mid
-      → ((m : ℕ) → length mid ≤ suc m → Goes k m (suc (level j)) w mid rest)
-      → next_joint (suc (level j)) rest ≡ None → binary_of rules k j v w ≡ Some u
-      → Goes k n least u ts rest
-  onward {k = k} {n = n} {least = least} j {t = t} {v = v} {w = w} {u = u} {mid = mid} {rest = rest}
+      → ((m : ℕ) → length mid ≤ suc m → Goes m (suc (level j)) w mid rest)
+      → next_joint (suc (level j)) rest ≡ None → binary_of rules j v w ≡ Some u
+      → Goes n least u ts rest
+  onward {n = n} {least = least} j {t = t} {v = v} {w = w} {u = u} {mid = mid} {rest = rest}
       g is low within enough shorter right none join =
       let s = some_turns g.turns (omega (arith, g.enough)) in
       let next = ap (if_level least mid) is ∙ if_level-found least mid j low in
-      let read : part_at rules n k (suc (level j)) mid ≡ Some (w, rest) =
+      let read : part_at rules n (suc (level j)) mid ≡ Some (w, rest) =
       deeper n (omega arith) shorter right none in
       record {
         turns = s.0;
         enough = omega (arith, g.enough, s.1);
-        goes = g.goes ∙ turn k (part_at rules n) least g.turns s.0 j v u (t ∷ mid) mid rest s.1 next
+        goes = g.goes ∙ turn (part_at rules n) least g.turns s.0 j v u (t ∷ mid) mid rest s.1 next
             (rw (read, join) refl);
       }
 
-  pub no_depth : (k : Clause) (least : ℕ) (ts : List Token) → part_at rules 0 k least ts ≡ None
+  pub no_depth : (least : ℕ) (ts : List Token) → part_at rules 0 least ts ≡ None
   unfolding part_at
-  no_depth k least ts = refl
+  no_depth least ts = refl
 
-  pub part_goes : (k : Clause) (depth least : ℕ) (ts : List Token) → 0 < depth
-      → part_at rules depth k least ts
-      ≡ option_and_then (λ p. joined rules k (part_at rules (depth - 1)) least (suc (length p.1))
-      p.0 p.1) (first_term rules k (part_at rules (depth - 1)) ts)
+  pub part_goes : (depth least : ℕ) (ts : List Token) → 0 < depth → part_at rules depth least ts
+      ≡ option_and_then (λ p. joined rules (part_at rules (depth - 1)) least (suc (length p.1)) p.0
+      p.1) (first_term rules (depth - 1) (part_at rules (depth - 1)) ts)
   unfolding part_at
-  part_goes k zero least ts h = absurd (omega arith)
-  part_goes k (suc d) least ts h =
-      let is : d ≡ suc d - 1 = omega arith in
-      ap (λ n. option_and_then (λ p. joined rules k (part_at rules n) least (suc (length p.1)) p.0
-      p.1) (first_term rules k (part_at rules n) ts)) is
+  part_goes zero least ts h = absurd (omega arith)
+  part_goes (suc d) least ts h = let is : d ≡ suc d - 1 = omega arith in ap (λ n. option_and_then
+      (λ p. joined rules (part_at rules n) least (suc (length p.1)) p.0 p.1)
+      (first_term rules n (part_at rules n) ts)) is
 
 -- a fault inside is a fault of the whole
 pub fault_goes : {Y W : Type 0} (e : ParseError) (read : Option Y) (outer : Option W)

@@ -9,16 +9,14 @@ use Rattle.query_model.specs.declared.query.OrderKey.{OrderKey}
 use Rattle.query_model.specs.declared.query.Span.{Span}
 use Rattle.query_model.specs.declared.query.TableRef.{TableRef}
 use Rattle.query_model.specs.declared.query.TableRef.TheVariants as table
-use Rattle.sql_grammar.specs.QueryTypes.{Condition, ItemWhat, plain_item, call_item, ItemTree, Selection, star, listed, QueryTree}
+use Rattle.sql_grammar.specs.QueryTypes.{QueryOperand, Condition, ItemWhat, plain_item, call_item, ItemTree, Selection, star, listed, QueryTree}
 use Rattle.sql_grammar.specs.declared.Token.{Token}
 use Rattle.sql_grammar.specs.declared.Token.TheVariants as token
 use Rattle.sql_grammar.specs.declared.Keyword.TheVariants as keyword
 use Rattle.sql_grammar.specs.declared.Sign.TheVariants as sign
 use Rattle.sql_text.specs.declared.lists.Separator.{Separator}
 use Rattle.sql_text.specs.declared.lists.Separator.TheVariants as mark
-use Rattle.sql_text.specs.declared.term.Clause.{Clause}
-use Rattle.sql_text.specs.declared.term.Clause.TheVariants as clause
-use Rattle.sql_text.specs.Terms.{Parse, plain_operand, condition_of, dotted, called, call_at, term_at}
+use Rattle.sql_text.specs.Terms.{Parse, SideRules, plain_operand, condition_of, dotted, call_front, call_at, part_at, row_sides, group_sides}
 
 -- ---- lists
 
@@ -58,19 +56,15 @@ abbrev pub alias_at : List Token → Parse (Option (List ℕ))
 alias_at (token.Keyword keyword.As ∷ ts) = option_map (λ n. (Some n.0, n.1)) (name_parse ts)
 alias_at ts = Some (None, ts)
 
--- the aggregate that is called at the front
-abbrev pub call_front : List Token → Option (AggOp × List Token)
-call_front (token.Name w ∷ ts) = called w ts
-call_front _ = None
-
 abbrev pub plain_what : ℕ → List Token → Parse ItemWhat
 plain_what depth ts =
     option_and_then (λ p. option_map (λ e. (plain_item e, p.1)) (plain_operand p.0))
-    (term_at depth clause.OfRows 5 ts)
+    (part_at row_sides depth 5 ts)
 
 abbrev pub what_by : ℕ → List Token → Option (AggOp × List Token) → Parse ItemWhat
 what_by depth ts None = plain_what depth ts
-what_by depth ts (Some c) = option_map (λ r. (call_item r.0, r.1)) (call_at (term_at depth) c.0 c.1)
+what_by depth ts (Some c) =
+    option_map (λ r. (call_item r.0, r.1)) (call_at (part_at row_sides depth) c.0 c.1)
 
 abbrev pub what_at : ℕ → List Token → Parse ItemWhat
 what_at depth ts = what_by depth ts (call_front ts)
@@ -171,16 +165,15 @@ by_at read ts = option_and_then (λ ts. list_at read mark.Comma (length ts) ts) 
 -- ---- conditions
 
 -- behind WHERE or HAVING
-abbrev pub condition_at : ℕ → Clause → List Token → Parse Condition
-condition_at depth k ts =
-    option_and_then (λ p. option_map (λ c. (c, p.1)) (condition_of p.0)) (term_at depth k 1 ts)
+abbrev pub condition_at : SideRules QueryOperand → ℕ → List Token → Parse Condition
+condition_at rules depth ts =
+    option_and_then (λ p. option_map (λ c. (c, p.1)) (condition_of p.0)) (part_at rules depth 1 ts)
 
 abbrev pub filter_at : ℕ → List Token → Parse (Option Condition)
-filter_at depth ts = clause_at mark.Where None Some (condition_at depth clause.OfRows) ts
+filter_at depth ts = clause_at mark.Where None Some (condition_at row_sides depth) ts
 
 abbrev pub having_at : ℕ → List Token → Parse (Option Condition)
-having_at depth ts =
-    clause_at mark.Having None Some (condition_at depth clause.OfGroups) ts
+having_at depth ts = clause_at mark.Having None Some (condition_at group_sides depth) ts
 
 -- ---- groups, order and limit
 

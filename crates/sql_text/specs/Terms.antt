@@ -15,12 +15,12 @@ use Rattle.sql_grammar.specs.declared.Sign.{Sign}
 use Rattle.sql_grammar.specs.declared.Token.TheVariants as token
 use Rattle.sql_grammar.specs.declared.Keyword.TheVariants as keyword
 use Rattle.sql_grammar.specs.declared.Sign.TheVariants as sign
-use Rattle.sql_text.specs.declared.term.Clause.{Clause}
-use Rattle.sql_text.specs.declared.term.Clause.TheVariants as clause
 use Rattle.sql_text.specs.declared.term.BinaryOperator.{BinaryOperator}
 use Rattle.sql_text.specs.declared.term.BinaryOperator.TheVariants as joint
-use Rattle.sql_text.specs.declared.term.Side.{Side}
-use Rattle.sql_text.specs.declared.term.Side.TheVariants as side'
+use Rattle.sql_text.specs.declared.term.RowSide.{RowSide}
+use Rattle.sql_text.specs.declared.term.RowSide.TheVariants as row
+use Rattle.sql_text.specs.declared.term.GroupSide.{GroupSide}
+use Rattle.sql_text.specs.declared.term.GroupSide.TheVariants as group
 use Rattle.sql_text.specs.declared.term.Term.{Term}
 use Rattle.sql_text.specs.declared.term.Term.TheVariants as part'
 
@@ -96,81 +96,78 @@ abbrev pub negation_at : {S : Type 0} → Parsed S → List Token → Parse (Par
 negation_at (side s) ts = None
 negation_at (truth c) ts = Some (truth (negated c), ts)
 
--- what reads a part, in a clause, whose binary operators bind at least so tightly
+-- what reads a part whose binary operators bind at least so tightly
 abbrev pub PartParser : Type 0 → Type 0
-PartParser S = Clause → ℕ → List Token → Parse (Parsed S)
+PartParser S = ℕ → List Token → Parse (Parsed S)
 
 -- What is told of sides: which one stands at the front, where neither NOT nor a parenthesis does,
--- what arithmetic makes of two, and which may stand in parentheses.
+-- what arithmetic makes of two, and which may stand in parentheses. The number bounds how deep
+-- parts stand in a side.
 pub record SideRules (S : Type 0) : Type 0 where
-  pub first : Clause → PartParser S → List Token → Parse S
-  pub calculated : Clause → ArithOp → S → S → Option S
-  pub encloses : Clause → S → Bool
+  pub first : ℕ → List Token → Parse S
+  pub calculated : ArithOp → S → S → Option S
+  pub encloses : S → Bool
 
 module _ {S : Type 0} (rules : SideRules S) where
-  abbrev pub binary_of : Clause → BinaryOperator → Parsed S → Parsed S → Option (Parsed S)
-  binary_of k (joint.Arith o) a b = option_and_then (λ l. option_and_then (λ r.
-      option_map (λ s. side s) (rules.calculated k o l r)) (side_of b)) (side_of a)
-  binary_of k (joint.Compare o) a b = if_both (λ l r. truth (compare o l r)) (side_of a) (side_of b)
-  binary_of k joint.And a b = if_both (λ l r. truth (both l r)) (condition_of a) (condition_of b)
-  binary_of k joint.Or a b = if_both (λ l r. truth (either l r)) (condition_of a) (condition_of b)
+  abbrev pub binary_of : BinaryOperator → Parsed S → Parsed S → Option (Parsed S)
+  binary_of (joint.Arith o) a b = option_and_then (λ l. option_and_then (λ r.
+      option_map (λ s. side s) (rules.calculated o l r)) (side_of b)) (side_of a)
+  binary_of (joint.Compare o) a b = if_both (λ l r. truth (compare o l r)) (side_of a) (side_of b)
+  binary_of joint.And a b = if_both (λ l r. truth (both l r)) (condition_of a) (condition_of b)
+  binary_of joint.Or a b = if_both (λ l r. truth (either l r)) (condition_of a) (condition_of b)
 
-  abbrev pub closed_at : Clause → Parsed S → List Token → Parse (Parsed S)
-  closed_at k (side s) ts = if rules.encloses k s
+  abbrev pub closed_at : Parsed S → List Token → Parse (Parsed S)
+  closed_at (side s) ts = if rules.encloses s
       then option_map (λ rest. (side s, rest)) (behind_bracket ts) else None
-  closed_at k (truth c) ts = option_map (λ rest. (truth c, rest)) (behind_bracket ts)
+  closed_at (truth c) ts = option_map (λ rest. (truth c, rest)) (behind_bracket ts)
 
   -- a part without binary operators: a side, what stands in parentheses, or a negation
-  abbrev pub first_term : Clause → PartParser S → List Token → Parse (Parsed S)
-  first_term k inner (token.Keyword keyword.Not ∷ ts) =
-      option_and_then (λ p. negation_at p.0 p.1) (inner k 4 ts)
-  first_term k inner (token.Sign sign.Open ∷ ts) =
-      option_and_then (λ p. closed_at k p.0 p.1) (inner k 1 ts)
-  first_term k inner ts = option_map (λ s. (side s.0, s.1)) (rules.first k inner ts)
+  abbrev pub first_term : ℕ → PartParser S → List Token → Parse (Parsed S)
+  first_term depth inner (token.Keyword keyword.Not ∷ ts) =
+      option_and_then (λ p. negation_at p.0 p.1) (inner 4 ts)
+  first_term depth inner (token.Sign sign.Open ∷ ts) =
+      option_and_then (λ p. closed_at p.0 p.1) (inner 1 ts)
+  first_term depth inner ts = option_map (λ s. (side s.0, s.1)) (rules.first depth ts)
 
   -- the part at the left with what the binary operator joins to it
-  abbrev pub turn_of : Clause → PartParser S → BinaryOperator → Parsed S → List Token
-      → Parse (Parsed S)
-  turn_of k inner j left ts =
-      option_and_then (λ r. option_map (λ p. (p, r.1)) (binary_of k j left r.0))
-      (inner k (suc (level j)) ts)
+  abbrev pub turn_of : PartParser S → BinaryOperator → Parsed S → List Token → Parse (Parsed S)
+  turn_of inner j left ts = option_and_then (λ r. option_map (λ p. (p, r.1)) (binary_of j left r.0))
+      (inner (suc (level j)) ts)
 
-  abbrev pub joined_at : Clause → PartParser S → (Parsed S → List Token → Parse (Parsed S))
-      → Parsed S → List Token → Option (BinaryOperator × List Token) → Parse (Parsed S)
-  joined_at k inner more left ts None = Some (left, ts)
-  joined_at k inner more left ts (Some j) =
-      option_and_then (λ p. more p.0 p.1) (turn_of k inner j.0 left j.1)
+  abbrev pub joined_at : PartParser S → (Parsed S → List Token → Parse (Parsed S)) → Parsed S
+      → List Token → Option (BinaryOperator × List Token) → Parse (Parsed S)
+  joined_at inner more left ts None = Some (left, ts)
+  joined_at inner more left ts (Some j) =
+      option_and_then (λ p. more p.0 p.1) (turn_of inner j.0 left j.1)
 
   -- The part at the left, and what binary operators as tight as least join to it from the left on.
   -- The last number bounds the turns.
-  unfoldable pub joined : Clause → PartParser S → ℕ → ℕ → Parsed S → List Token
-      → Parse (Parsed S)
-  joined k inner least zero left ts = None
-  joined k inner least (suc turns) left ts =
-      joined_at k inner (joined k inner least turns) left ts (next_joint least ts)
+  unfoldable pub joined : PartParser S → ℕ → ℕ → Parsed S → List Token → Parse (Parsed S)
+  joined inner least zero left ts = None
+  joined inner least (suc turns) left ts =
+      joined_at inner (joined inner least turns) left ts (next_joint least ts)
 
   -- A part whose binary operators bind at least so tightly. The first number bounds how deep parts
   -- stand in parts; the count of the tokens is always enough.
   unfoldable pub part_at : ℕ → PartParser S
-  part_at zero k least ts = None
-  part_at (suc depth) k least ts =
-      option_and_then (λ p. joined k (part_at depth) least (suc (length p.1)) p.0 p.1)
-      (first_term k (part_at depth) ts)
-
--- ---- the sides of a query's comparisons
-
-abbrev pub side_form : Side → QueryOperand
-side_form (side'.Plain e) = plain (formula e.value)
-side_form (side'.Text t) = text t
-side_form (side'.Call c) = call (call_form c.value)
+  part_at zero least ts = None
+  part_at (suc depth) least ts =
+      option_and_then (λ p. joined (part_at depth) least (suc (length p.1)) p.0 p.1)
+      (first_term depth (part_at depth) ts)
 
 -- a part apart from where its boxes lie
-abbrev pub parsed : Term → Parsed QueryOperand
-parsed (part'.Side s) = side (side_form s)
-parsed (part'.Condition c) = truth (cond_form c.value)
+abbrev pub part_form : {S : Type 0} → (S → QueryOperand) → Term S → Parsed QueryOperand
+part_form form (part'.Side s) = side (form s)
+part_form form (part'.Condition c) = truth (cond_form c.value)
 
 abbrev pub OperandParser : Type 0
 OperandParser = PartParser QueryOperand
+
+-- ---- the sides of WHERE and of the items of SELECT
+
+abbrev pub row_form : RowSide → QueryOperand
+row_form (row.Plain e) = plain (formula e.value)
+row_form (row.Text t) = text t
 
 abbrev pub plain_side : QueryOperand → Option Expression
 plain_side (plain e) = Some e
@@ -180,17 +177,6 @@ plain_side (call c) = None
 abbrev pub plain_operand : Parsed QueryOperand → Option Expression
 plain_operand part = option_and_then plain_side (side_of part)
 
--- HAVING has no arithmetic
-abbrev pub calculated : Clause → ArithOp → QueryOperand → QueryOperand → Option QueryOperand
-calculated clause.OfRows o a b =
-    if_both (λ l r. plain (arith o l r)) (plain_side a) (plain_side b)
-calculated clause.OfGroups o a b = None
-
--- an expression stands in parentheses, but not in HAVING
-abbrev pub encloses : Clause → QueryOperand → Bool
-encloses clause.OfRows s = is_some (plain_side s)
-encloses clause.OfGroups s = false
-
 -- the column that begins with the name
 abbrev pub dotted : List ℕ → List Token → ColumnRef × List Token
 dotted name (token.Sign sign.Dot ∷ token.Name c ∷ ts) = (record { table = Some name; name = c }, ts)
@@ -198,6 +184,24 @@ dotted name ts = (record { table = None; name = name }, ts)
 
 abbrev pub column_at : List ℕ → List Token → QueryOperand × List Token
 column_at name ts = (plain (column (dotted name ts).0), (dotted name ts).1)
+
+-- a side without binary operators: a column, a number or a string
+abbrev pub row_side_at : List Token → Parse QueryOperand
+row_side_at (token.Name w ∷ ts) = Some (column_at w ts)
+row_side_at (token.Number n ∷ ts) =
+    Some (plain (number (record { negative = false; size = n })), ts)
+row_side_at (token.Sign sign.Minus ∷ token.Number n ∷ ts) =
+    Some (plain (number (record { negative = true; size = n })), ts)
+row_side_at (token.Text t ∷ ts) = Some (text t, ts)
+row_side_at _ = None
+
+-- arithmetic is of expressions, and an expression stands in parentheses
+abbrev pub row_sides : SideRules QueryOperand
+row_sides = record {
+  first = λ depth ts. row_side_at ts;
+  calculated = λ o a b. if_both (λ l r. plain (arith o l r)) (plain_side a) (plain_side b);
+  encloses = λ s. is_some (plain_side s);
+}
 
 -- ---- calls
 
@@ -221,35 +225,33 @@ call_over op read =
 -- a call, behind its first parenthesis
 abbrev pub call_at : OperandParser → AggOp → List Token → Parse CallTree
 call_at inner agg.Count ts = count_at ts
-call_at inner op ts = call_over op (inner clause.OfRows 5 ts)
+call_at inner op ts = call_over op (inner 5 ts)
 
 -- the aggregate that a word calls, and the tokens behind its parenthesis
 abbrev pub called : List ℕ → List Token → Option (AggOp × List Token)
 called w (token.Sign sign.Open ∷ ts) = option_map (λ op. (op, ts)) (aggregate_of w)
 called w _ = None
 
-abbrev pub call_or_column : OperandParser → List ℕ → List Token → Option (AggOp × List Token)
+-- the aggregate that is called at the front
+abbrev pub call_front : List Token → Option (AggOp × List Token)
+call_front (token.Name w ∷ ts) = called w ts
+call_front _ = None
+
+-- ---- the sides of HAVING
+
+abbrev pub group_form : GroupSide → QueryOperand
+group_form (group.Row s) = row_form s
+group_form (group.Call c) = call (call_form c.value)
+
+abbrev pub call_or_row : OperandParser → List Token → Option (AggOp × List Token)
     → Parse QueryOperand
-call_or_column inner w ts None = Some (column_at w ts)
-call_or_column inner w ts (Some c) = option_map (λ r. (call r.0, r.1)) (call_at inner c.0 c.1)
+call_or_row inner ts None = row_side_at ts
+call_or_row inner ts (Some c) = option_map (λ r. (call r.0, r.1)) (call_at inner c.0 c.1)
 
--- a word that is no keyword: a column, or in HAVING the beginning of a call
-abbrev pub word_at : Clause → OperandParser → List ℕ → List Token → Parse QueryOperand
-word_at clause.OfRows inner w ts = Some (column_at w ts)
-word_at clause.OfGroups inner w ts = call_or_column inner w ts (called w ts)
-
--- a side without binary operators: a column, a number, a string or a call
-abbrev pub side_at : Clause → OperandParser → List Token → Parse QueryOperand
-side_at k inner (token.Name w ∷ ts) = word_at k inner w ts
-side_at k inner (token.Number n ∷ ts) =
-    Some (plain (number (record { negative = false; size = n })), ts)
-side_at k inner (token.Sign sign.Minus ∷ token.Number n ∷ ts) =
-    Some (plain (number (record { negative = true; size = n })), ts)
-side_at k inner (token.Text t ∷ ts) = Some (text t, ts)
-side_at k inner _ = None
-
-abbrev pub query_sides : SideRules QueryOperand
-query_sides = record { first = side_at; calculated = calculated; encloses = encloses }
-
-abbrev pub term_at : ℕ → OperandParser
-term_at depth = part_at query_sides depth
+-- no arithmetic, and nothing in parentheses
+abbrev pub group_sides : SideRules QueryOperand
+group_sides = record {
+  first = λ depth ts. call_or_row (part_at row_sides depth) ts (call_front ts);
+  calculated = λ o a b. None;
+  encloses = λ s. false;
+}

@@ -7,13 +7,13 @@ ghost use Rattle.query_model.specs.declared.query.ColumnRef.{ColumnRef as Column
 ghost use Rattle.query_model.specs.declared.query.OrderKey.{OrderKey as Key};
 ghost use Rattle.sql_text.specs.Answers.{ParseGives};
 ghost use Rattle.sql_text.specs.Terms.{Parse};
-ghost use Rattle.sql_text.specs.Queries.{behind, by_at, clause_at, list_at, alias_at, call_front, plain_what, what_at, item_at, selection_at, column_ref_at, direction_at, order_key_at};
+ghost use Rattle.sql_text.specs.Queries.{behind, by_at, clause_at, list_at, alias_at, plain_what, what_at, item_at, selection_at, column_ref_at, direction_at, order_key_at};
 
 use crate::parse_error::ParseError;
 use crate::tables::{column_ref_at, name_at};
-use crate::term::{Clause, EXPRESSION, call_at, called, plain_of, term_at};
+use crate::term::{EXPRESSION, call_at, call_front, part_at, plain_of};
 use chunk_data::{Bytes, List};
-use query_model::query::{AggOp, ColumnRef, Item, ItemKind, Items, OrderKey};
+use query_model::query::{ColumnRef, Item, ItemKind, Items, OrderKey};
 use sql_grammar::{Keyword, Sign, Token};
 use std::alloc::Global;
 
@@ -60,7 +60,7 @@ pub trait Listed: Drop {
 
     ghost reading: { ℕ → Seq Piece → Parse Tree };
 
-    /// The element at the front, and the tokens behind it. `depth` is that of `term_at`.
+    /// The element at the front, and the tokens behind it. `depth` is that of `part_at`.
     fn read(alloc: Global, tokens: &[Token], depth: usize) -> Result<(Self, &[Token]), ParseError>
         ensures { ParseGives (λ p. (tree p.0, p.1.now)) result (reading depth tokens.now) };
 
@@ -69,7 +69,7 @@ pub trait Listed: Drop {
     ghost more: { (xs : Seq Self) (x : Self) → trees (xs ++ x ∷ []) ≡ trees xs ++ tree x ∷ [] };
 }
 
-/// The list at the front, and the tokens behind it. `depth` is that of `term_at`.
+/// The list at the front, and the tokens behind it. `depth` is that of `part_at`.
 pub fn list_at<T: Listed>(
     alloc: Global,
     separator: Separator,
@@ -126,16 +126,6 @@ fn alias_at(tokens: &[Token]) -> Result<(Option<Bytes>, &[Token]), ParseError>
     }
 }
 
-// The aggregate that is called at the front, and the tokens behind its parenthesis.
-fn call_front(tokens: &[Token]) -> Option<(AggOp, &[Token])>
-    ensures { option_map (λ p. (p.0, p.1.now)) result ≡ call_front tokens.now }
-{
-    match tokens.split_first() {
-        Some((Token::Name(word), rest)) => called(word.as_slice(), rest),
-        _ => None,
-    }
-}
-
 fn plain_what(
     alloc: Global,
     tokens: &[Token],
@@ -143,7 +133,7 @@ fn plain_what(
 ) -> Result<(ItemKind, &[Token]), ParseError>
     ensures { ParseGives (λ p. (item_what p.0, p.1.now)) result (plain_what depth tokens.now) }
 {
-    let (part, rest) = term_at(alloc, Clause::OfRows, EXPRESSION, tokens, depth)?;
+    let (part, rest) = part_at(alloc, EXPRESSION, tokens, depth)?;
     let expr = plain_of(part)?;
     Ok((ItemKind::Plain(Box::into_inner(expr)), rest))
 }
@@ -184,7 +174,7 @@ impl Listed for Item {
     }
 }
 
-/// The items of SELECT. `depth` is that of `term_at`.
+/// The items of SELECT. `depth` is that of `part_at`.
 pub fn selection_at(
     alloc: Global,
     tokens: &[Token],

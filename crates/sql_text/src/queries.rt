@@ -8,7 +8,7 @@ ghost use Rattle.sql_text.specs.Queries.{join_at, clause_at, condition_at, numbe
 use crate::lists::{Separator, behind, listed_behind, selection_at};
 use crate::parse_error::{ParseError, next_token};
 use crate::tables::{from_at, joined_table_at};
-use crate::term::{CONDITION, Clause, condition_of, term_at};
+use crate::term::{CONDITION, ConditionSide, GroupSide, RowSide, condition_of, part_at};
 use chunk_data::List;
 use query_model::query::{ColumnRef, CondOf, Items, Join, OrderKey, Query, Span, TableRef};
 use sql_grammar::{Keyword, Token};
@@ -36,33 +36,31 @@ fn join_at(alloc: Global, tokens: &[Token]) -> Result<(Option<Join>, &[Token]), 
 }
 
 // The condition behind WHERE or HAVING.
-fn condition_at(
+fn condition_at<S: ConditionSide>(
     alloc: Global,
-    clause: Clause,
     tokens: &[Token],
     depth: usize,
 ) -> Result<(CondOf<ColumnRef>, &[Token]), ParseError>
     ensures { ParseGives (λ p. (cond_form p.0, p.1.now)) result
-        (condition_at depth clause tokens.now) }
+        (condition_at S.rules depth tokens.now) }
 {
-    let (part, rest) = term_at(alloc, clause, CONDITION, tokens, depth)?;
+    let (part, rest) = part_at::<S>(alloc, CONDITION, tokens, depth)?;
     Ok((Box::into_inner(condition_of(part)?), rest))
 }
 
 // The condition behind the mark, where that stands.
-fn condition_behind(
+fn condition_behind<S: ConditionSide>(
     alloc: Global,
     mark: Separator,
-    clause: Clause,
     tokens: &[Token],
     depth: usize,
 ) -> Result<(Option<CondOf<ColumnRef>>, &[Token]), ParseError>
     ensures { ParseGives (λ p. (option_map cond_form p.0, p.1.now)) result
-        (clause_at mark None Some (condition_at depth clause) tokens.now) }
+        (clause_at mark None Some (condition_at S.rules depth) tokens.now) }
 {
     match behind(mark, tokens) {
         Some(rest) => {
-            let (condition, rest) = condition_at(alloc, clause, rest, depth)?;
+            let (condition, rest) = condition_at::<S>(alloc, rest, depth)?;
             Ok((Some(condition), rest))
         }
         None => Ok((None, tokens)),
@@ -128,7 +126,7 @@ fn ending_at(
     )) result (ending_at depth tokens.now) }
 {
     let (keys, rest) = listed_behind(alloc, Separator::Group, tokens)?;
-    let (having, rest) = condition_behind(alloc, Separator::Having, Clause::OfGroups, rest, depth)?;
+    let (having, rest) = condition_behind::<GroupSide>(alloc, Separator::Having, rest, depth)?;
     let (order, rest) = listed_behind(alloc, Separator::Order, rest)?;
     let (limit, rest) = limit_at(rest)?;
     let ending = Ending {
@@ -176,7 +174,7 @@ fn after_select(tokens: &[Token]) -> Result<&[Token], ParseError>
     }
 }
 
-/// The query at the front, and the tokens behind it. `depth` is that of `term_at`.
+/// The query at the front, and the tokens behind it. `depth` is that of `part_at`.
 pub fn query_at(
     alloc: Global,
     tokens: &[Token],
@@ -187,6 +185,6 @@ pub fn query_at(
     let (items, rest) = selection_at(alloc, after_select(tokens)?, depth)?;
     let (from, rest) = from_at(rest)?;
     let (join, rest) = join_at(alloc, rest)?;
-    let (filter, rest) = condition_behind(alloc, Separator::Where, Clause::OfRows, rest, depth)?;
+    let (filter, rest) = condition_behind::<RowSide>(alloc, Separator::Where, rest, depth)?;
     shaped(alloc, items, from, join, filter, rest, depth)
 }

@@ -2,8 +2,9 @@
 ghost use Rattle.std.specs.Prelude.{◌≡◌, ℕ, suc, ◌+◌, ◌<◌, ◌≤◌, length, List, Some, None, option_map, OnOk, IfOk};
 ghost use Rattle.query_model.specs.Formulas.{call_form, cond_form, formula, number, operand_form, plain};
 ghost use Rattle.sql_grammar.specs.declared.Token.{Token};
+ghost use Rattle.sql_grammar.specs.Names.{QueryOperand};
 ghost use Rattle.sql_text.specs.Answers.{ParseGives};
-ghost use Rattle.sql_text.specs.Terms.{side, truth, parsed, sign_joint, keyword_joint, joint_of, level, next_joint, binary_of, side_of, side_form, query_sides, plain_side, plain_operand, condition_of, calculated, encloses, column_at, side_at, behind_bracket, closed_at, count_at, call_over, called, call_at, word_at, negation_at, first_term, turn_of, joined, term_at};
+ghost use Rattle.sql_text.specs.Terms.{side, truth, part_form, row_form, group_form, sign_joint, keyword_joint, joint_of, level, next_joint, SideRules, binary_of, side_of, row_sides, group_sides, plain_side, plain_operand, condition_of, column_at, behind_bracket, closed_at, count_at, call_over, call_front, call_at, negation_at, first_term, turn_of, joined, part_at};
 
 use crate::parse_error::{ParseError, next_token};
 use crate::tables::dotted_at;
@@ -21,14 +22,6 @@ pub const COMPARISON: u8 = 4;
 
 pub const EXPRESSION: u8 = 5;
 
-/// The clause in which a part stands. HAVING is over groups: its operands are a column, a call, a
-/// plain number or a string.
-#[derive(Clone, Copy, PartialEq, Eq)]
-pub enum Clause {
-    OfRows,
-    OfGroups,
-}
-
 // What joins two parts.
 #[derive(Clone, Copy)]
 pub enum BinaryOperator {
@@ -38,19 +31,51 @@ pub enum BinaryOperator {
     Or,
 }
 
-// A side of a comparison, or a part of one.
+/// What may stand at a side of a comparison in a clause, and how it is read.
+pub trait ConditionSide: Drop {
+    // A side apart from where its boxes lie, and what is told of sides.
+    ghost form: { Self → QueryOperand };
+
+    ghost rules: { SideRules QueryOperand };
+
+    /// The side at the front, where neither NOT nor a parenthesis does, and the tokens behind it.
+    /// `depth` is that of `part_at`.
+    fn side_at(
+        alloc: Global,
+        tokens: &[Token],
+        depth: usize,
+    ) -> Result<(Self, &[Token]), ParseError>
+        ensures { ParseGives (λ p. (form p.0, p.1.now)) result (rules.first depth tokens.now) };
+
+    fn calculated(alloc: Global, op: ArithOp, left: Self, right: Self) -> Result<Self, ParseError>
+        ensures { ParseGives form result (rules.calculated op (form left) (form right)) };
+
+    fn encloses(side: &Self) -> bool
+        ensures { result ≡ rules.encloses (form side.now) };
+
+    fn operand_of(side: Self) -> Operand<ColumnRef>
+        ensures { operand_form result ≡ form side };
+}
+
+/// A side in WHERE and in the items of SELECT, or a part of one.
 #[derive(Drop)]
-pub enum Side {
+pub enum RowSide {
     Plain(Box<ExprOf<ColumnRef>>),
     Text(Bytes),
+}
+
+/// A side in HAVING: a column, a plain number or a string, or a call.
+#[derive(Drop)]
+pub enum GroupSide {
+    Row(RowSide),
     Call(Box<AggCall<ColumnRef>>),
 }
 
 // A part of an expression or a condition. It is small, since the reading of nested parts holds many
 // of them on the stack.
 #[derive(Drop)]
-pub enum Term {
-    Side(Side),
+pub enum Term<S> {
+    Side(S),
     Condition(Box<CondOf<ColumnRef>>),
 }
 
@@ -125,8 +150,8 @@ fn next_joint(least: u8, tokens: &[Token]) -> Option<(BinaryOperator, &[Token])>
     }
 }
 
-fn side_of(part: Term) -> Result<Side, ParseError>
-    ensures { ParseGives side_form result (side_of (parsed part)) }
+fn side_of<S: ConditionSide>(part: Term<S>) -> Result<S, ParseError>
+    ensures { ParseGives S.form result (side_of (part_form S.form part)) }
 {
     match part {
         Term::Side(s) => Ok(s),
@@ -134,8 +159,8 @@ fn side_of(part: Term) -> Result<Side, ParseError>
     }
 }
 
-pub fn condition_of(part: Term) -> Result<Box<CondOf<ColumnRef>>, ParseError>
-    ensures { ParseGives (λ c. cond_form c.value) result (condition_of (parsed part)) }
+pub fn condition_of<S: ConditionSide>(part: Term<S>) -> Result<Box<CondOf<ColumnRef>>, ParseError>
+    ensures { ParseGives (λ c. cond_form c.value) result (condition_of (part_form S.form part)) }
 {
     match part {
         Term::Condition(c) => Ok(c),
@@ -143,94 +168,55 @@ pub fn condition_of(part: Term) -> Result<Box<CondOf<ColumnRef>>, ParseError>
     }
 }
 
-fn operand_of(side: Side) -> Operand<ColumnRef>
-    ensures { operand_form result ≡ side_form side }
+fn plain_side(side: RowSide) -> Result<Box<ExprOf<ColumnRef>>, ParseError>
+    ensures { ParseGives (λ e. formula e.value) result (plain_side (row_form side)) }
 {
     match side {
-        Side::Plain(e) => Operand::Plain(Box::into_inner(e)),
-        Side::Text(t) => Operand::Text(t),
-        Side::Call(c) => Operand::Agg(Box::into_inner(c)),
+        RowSide::Plain(e) => Ok(e),
+        RowSide::Text(_) => Err(ParseError::Syntax),
     }
 }
 
-fn plain_side(side: Side) -> Result<Box<ExprOf<ColumnRef>>, ParseError>
-    ensures { ParseGives (λ e. formula e.value) result (plain_side (side_form side)) }
-{
-    match side {
-        Side::Plain(e) => Ok(e),
-        Side::Text(_) | Side::Call(_) => Err(ParseError::Syntax),
-    }
-}
-
-pub fn plain_of(part: Term) -> Result<Box<ExprOf<ColumnRef>>, ParseError>
-    ensures { ParseGives (λ e. formula e.value) result (plain_operand (parsed part)) }
+pub fn plain_of(part: Term<RowSide>) -> Result<Box<ExprOf<ColumnRef>>, ParseError>
+    ensures { ParseGives (λ e. formula e.value) result (plain_operand (part_form row_form part)) }
 {
     plain_side(side_of(part)?)
 }
 
-fn expression_side(alloc: Global, expr: ExprOf<ColumnRef>) -> Result<Side, ParseError>
-    ensures { ParseGives side_form result (Some (plain (formula expr))) }
+fn expression_side(alloc: Global, expr: ExprOf<ColumnRef>) -> Result<RowSide, ParseError>
+    ensures { ParseGives row_form result (Some (plain (formula expr))) }
 {
-    Ok(Side::Plain(Box::new(alloc, expr)?))
+    Ok(RowSide::Plain(Box::new(alloc, expr)?))
 }
 
-fn condition_part(alloc: Global, condition: CondOf<ColumnRef>) -> Result<Term, ParseError>
-    ensures { ParseGives parsed result (Some (truth (cond_form condition))) }
+fn condition_part<S: ConditionSide>(
+    alloc: Global,
+    condition: CondOf<ColumnRef>,
+) -> Result<Term<S>, ParseError>
+    ensures { ParseGives (part_form S.form) result (Some (truth (cond_form condition))) }
 {
     Ok(Term::Condition(Box::new(alloc, condition)?))
 }
 
-// HAVING has no arithmetic.
-fn calculated(
-    alloc: Global,
-    clause: Clause,
-    op: ArithOp,
-    left: Side,
-    right: Side,
-) -> Result<Side, ParseError>
-    ensures { ParseGives side_form result
-        (calculated clause op (side_form left) (side_form right)) }
-{
-    match clause {
-        Clause::OfRows => {
-            let a = plain_side(left)?;
-            let b = plain_side(right)?;
-            expression_side(alloc, ExprOf::Arith(op, a, b))
-        }
-        Clause::OfGroups => Err(ParseError::Syntax),
-    }
-}
-
-// An expression stands in parentheses, but not in HAVING.
-fn encloses(clause: Clause, side: &Side) -> bool
-    ensures { result ≡ encloses clause (side_form side.now) }
-{
-    match (clause, side) {
-        (Clause::OfRows, Side::Plain(_)) => true,
-        (Clause::OfRows, Side::Text(_) | Side::Call(_)) | (Clause::OfGroups, _) => false,
-    }
-}
-
 // What the binary operator makes of two parts.
-fn combined(
+fn combined<S: ConditionSide>(
     alloc: Global,
-    clause: Clause,
     joint: BinaryOperator,
-    left: Term,
-    right: Term,
-) -> Result<Term, ParseError>
-    ensures { ParseGives parsed result
-        (binary_of query_sides clause joint (parsed left) (parsed right)) }
+    left: Term<S>,
+    right: Term<S>,
+) -> Result<Term<S>, ParseError>
+    ensures { ParseGives (part_form S.form) result
+        (binary_of S.rules joint (part_form S.form left) (part_form S.form right)) }
 {
     match joint {
         BinaryOperator::Arith(op) => {
             let a = side_of(left)?;
             let b = side_of(right)?;
-            Ok(Term::Side(calculated(alloc, clause, op, a, b)?))
+            Ok(Term::Side(S::calculated(alloc, op, a, b)?))
         }
         BinaryOperator::Compare(op) => {
-            let a = operand_of(side_of(left)?);
-            let b = operand_of(side_of(right)?);
+            let a = S::operand_of(side_of(left)?);
+            let b = S::operand_of(side_of(right)?);
             condition_part(alloc, CondOf::Compare(op, a, b))
         }
         BinaryOperator::And => {
@@ -251,16 +237,16 @@ fn column_at<'a>(
     alloc: Global,
     name: &Bytes,
     tokens: &'a [Token],
-) -> Result<(Side, &'a [Token]), ParseError>
-    ensures { ParseGives (λ p. (side_form p.0, p.1.now)) result
+) -> Result<(RowSide, &'a [Token]), ParseError>
+    ensures { ParseGives (λ p. (row_form p.0, p.1.now)) result
         (Some (column_at name.now tokens.now)) }
 {
     let (column, rest) = dotted_at(name.copy()?, tokens)?;
     Ok((expression_side(alloc, ExprOf::Column(column))?, rest))
 }
 
-fn number_side(alloc: Global, negative: bool, size: u64) -> Result<Side, ParseError>
-    ensures { ParseGives side_form result
+fn number_side(alloc: Global, negative: bool, size: u64) -> Result<RowSide, ParseError>
+    ensures { ParseGives row_form result
         (Some (plain (number (record { negative = negative; size = size })))) }
 {
     expression_side(alloc, ExprOf::Number(Number { negative, size }))
@@ -276,13 +262,16 @@ fn after_close(tokens: &[Token]) -> Result<&[Token], ParseError>
     }
 }
 
-fn closed_at(clause: Clause, part: Term, tokens: &[Token]) -> Result<(Term, &[Token]), ParseError>
-    ensures { ParseGives (λ p. (parsed p.0, p.1.now)) result
-        (closed_at query_sides clause (parsed part) tokens.now) }
+fn closed_at<S: ConditionSide>(
+    part: Term<S>,
+    tokens: &[Token],
+) -> Result<(Term<S>, &[Token]), ParseError>
+    ensures { ParseGives (λ p. (part_form S.form p.0, p.1.now)) result
+        (closed_at S.rules (part_form S.form part) tokens.now) }
 {
     match part {
         Term::Side(s) => {
-            if encloses(clause, &s) {
+            if S::encloses(&s) {
                 Ok((Term::Side(s), after_close(tokens)?))
             } else {
                 Err(ParseError::Syntax)
@@ -309,11 +298,11 @@ fn count_at(tokens: &[Token]) -> Result<(AggCall<ColumnRef>, &[Token]), ParseErr
 
 fn call_over(
     op: AggOp,
-    part: Term,
+    part: Term<RowSide>,
     tokens: &[Token],
 ) -> Result<(AggCall<ColumnRef>, &[Token]), ParseError>
     ensures { ParseGives (λ p. (call_form p.0, p.1.now)) result
-        (call_over op (Some (parsed part, tokens.now))) }
+        (call_over op (Some (part_form row_form part, tokens.now))) }
 {
     let e = plain_of(part)?;
     let rest = after_close(tokens)?;
@@ -321,20 +310,21 @@ fn call_over(
     Ok((AggCall { op, arg }, rest))
 }
 
-/// The aggregate that the word calls where a parenthesis stands behind it, and the tokens behind
-/// that.
-pub fn called<'a>(word: &[u8], tokens: &'a [Token]) -> Option<(AggOp, &'a [Token])>
-    ensures { option_map (λ p. (p.0, p.1.now)) result ≡ called word.now tokens.now }
+/// The aggregate that is called at the front, and the tokens behind its parenthesis.
+pub fn call_front(tokens: &[Token]) -> Option<(AggOp, &[Token])>
+    ensures { option_map (λ p. (p.0, p.1.now)) result ≡ call_front tokens.now }
 {
-    match tokens.split_first() {
-        Some((Token::Sign(Sign::Open), rest)) => Some((aggregate_of(word)?, rest)),
+    match tokens {
+        [Token::Name(word), Token::Sign(Sign::Open), ..] => {
+            Some((aggregate_of(word.as_slice())?, &tokens[2..]))
+        }
         _ => None,
     }
 }
 
-fn negated(alloc: Global, part: Term) -> Result<Term, ParseError>
-    ensures { (rest : List Token)
-        → ParseGives (λ p. (parsed p, rest)) result (negation_at (parsed part) rest) }
+fn negated<S: ConditionSide>(alloc: Global, part: Term<S>) -> Result<Term<S>, ParseError>
+    ensures { (rest : List Token) → ParseGives (λ p. (part_form S.form p, rest)) result
+        (negation_at (part_form S.form part) rest) }
 {
     match part {
         Term::Condition(c) => condition_part(alloc, CondOf::Not(c)),
@@ -342,97 +332,29 @@ fn negated(alloc: Global, part: Term) -> Result<Term, ParseError>
     }
 }
 
-/// The call of an aggregate, behind its first parenthesis. `depth` is that of `term_at`.
-#[cycle(part)]
-pub fn call_at(
-    alloc: Global,
-    op: AggOp,
-    tokens: &[Token],
-    depth: usize,
-) -> Result<(AggCall<ColumnRef>, &[Token]), ParseError>
-    ensures { ParseGives (λ p. (call_form p.0, p.1.now)) result
-        (call_at (term_at depth) op tokens.now) }
-{
-    match op {
-        AggOp::Count => count_at(tokens),
-        AggOp::Sum | AggOp::Min | AggOp::Max => {
-            let (part, rest) = term_at(alloc, Clause::OfRows, EXPRESSION, tokens, depth)?;
-            call_over(op, part, rest)
-        }
-    }
-}
-
-// A column, or in HAVING the call that begins with the word.
-#[cycle(part)]
-fn word_at<'a>(
-    alloc: Global,
-    clause: Clause,
-    word: &Bytes,
-    tokens: &'a [Token],
-    depth: usize,
-) -> Result<(Side, &'a [Token]), ParseError>
-    ensures { ParseGives (λ p. (side_form p.0, p.1.now)) result
-        (word_at clause (term_at depth) word.now tokens.now) }
-{
-    match clause {
-        Clause::OfRows => column_at(alloc, word, tokens),
-        Clause::OfGroups => match called(word.as_slice(), tokens) {
-            Some((op, rest)) => {
-                let (call, rest) = call_at(alloc, op, rest, depth)?;
-                Ok((Side::Call(Box::new(alloc, call)?), rest))
-            }
-            None => column_at(alloc, word, tokens),
-        },
-    }
-}
-
-// A side without binary operators: a column, a number, a string or a call. What a level of nested
-// parts needs only beside the level below it stands in frames of its own.
+// A part without binary operators: a side, what stands in parentheses, or a negation. What a level
+// of nested parts needs only beside the level below it stands in frames of its own.
 #[inline(never)]
 #[cycle(part)]
-fn side_at(
+fn first_term<S: ConditionSide>(
     alloc: Global,
-    clause: Clause,
     tokens: &[Token],
     depth: usize,
-) -> Result<(Side, &[Token]), ParseError>
-    ensures { ParseGives (λ p. (side_form p.0, p.1.now)) result
-        (side_at clause (term_at depth) tokens.now) }
-{
-    match tokens {
-        [Token::Name(name), ..] => word_at(alloc, clause, name, &tokens[1..], depth),
-        [Token::Number(size), ..] => Ok((number_side(alloc, false, *size)?, &tokens[1..])),
-        [Token::Sign(Sign::Minus), Token::Number(size), ..] => {
-            Ok((number_side(alloc, true, *size)?, &tokens[2..]))
-        }
-        [Token::Text(text), ..] => Ok((Side::Text(text.copy()?), &tokens[1..])),
-        _ => Err(ParseError::Syntax),
-    }
-}
-
-// A part without binary operators: a side, what stands in parentheses, or a negation.
-#[inline(never)]
-#[cycle(part)]
-fn first_term(
-    alloc: Global,
-    clause: Clause,
-    tokens: &[Token],
-    depth: usize,
-) -> Result<(Term, &[Token]), ParseError>
-    ensures { ParseGives (λ p. (parsed p.0, p.1.now)) result
-        (first_term query_sides clause (term_at depth) tokens.now) }
+) -> Result<(Term<S>, &[Token]), ParseError>
+    ensures { ParseGives (λ p. (part_form S.form p.0, p.1.now)) result
+        (first_term S.rules depth (part_at S.rules depth) tokens.now) }
 {
     match tokens {
         [Token::Keyword(Keyword::Not), ..] => {
-            let (part, rest) = term_at(alloc, clause, COMPARISON, &tokens[1..], depth)?;
+            let (part, rest) = part_at(alloc, COMPARISON, &tokens[1..], depth)?;
             Ok((negated(alloc, part)?, rest))
         }
         [Token::Sign(Sign::Open), ..] => {
-            let (part, rest) = term_at(alloc, clause, CONDITION, &tokens[1..], depth)?;
-            closed_at(clause, part, rest)
+            let (part, rest) = part_at(alloc, CONDITION, &tokens[1..], depth)?;
+            closed_at(part, rest)
         }
         _ => {
-            let (side, rest) = side_at(alloc, clause, tokens, depth)?;
+            let (side, rest) = S::side_at(alloc, tokens, depth)?;
             Ok((Term::Side(side), rest))
         }
     }
@@ -442,55 +364,52 @@ fn first_term(
 /// `depth` bounds how deep parts stand in parts; the count of the tokens is always enough.
 #[cycle(part)]
 #[tactic(auto, using(crate::proofs::Turns::no_depth, crate::proofs::Turns::part_goes))]
-pub fn term_at(
+pub fn part_at<S: ConditionSide>(
     alloc: Global,
-    clause: Clause,
     least: u8,
     tokens: &[Token],
     depth: usize,
-) -> Result<(Term, &[Token]), ParseError>
-    ensures { ParseGives (λ p. (parsed p.0, p.1.now)) result
-        (term_at depth clause least tokens.now) }
+) -> Result<(Term<S>, &[Token]), ParseError>
+    ensures { ParseGives (λ p. (part_form S.form p.0, p.1.now)) result
+        (part_at S.rules depth least tokens.now) }
 {
     if depth == 0 {
         return Err(ParseError::Syntax);
     }
-    let (first, rest) = first_term(alloc, clause, tokens, depth - 1)?;
-    joined(alloc, clause, least, first, rest, depth - 1)
+    let (first, rest) = first_term(alloc, tokens, depth - 1)?;
+    joined(alloc, least, first, rest, depth - 1)
 }
 
 // The part at the left, and what the binary operator joins to it.
 #[cycle(part)]
-fn turn_of(
+fn turn_of<S: ConditionSide>(
     alloc: Global,
-    clause: Clause,
     joint: BinaryOperator,
-    left: Term,
+    left: Term<S>,
     tokens: &[Token],
     depth: usize,
-) -> Result<(Term, &[Token]), ParseError>
-    ensures { ParseGives (λ p. (parsed p.0, p.1.now)) result
-        (turn_of query_sides clause (term_at depth) joint (parsed left) tokens.now) }
+) -> Result<(Term<S>, &[Token]), ParseError>
+    ensures { ParseGives (λ p. (part_form S.form p.0, p.1.now)) result
+        (turn_of S.rules (part_at S.rules depth) joint (part_form S.form left) tokens.now) }
 {
-    let (right, rest) = term_at(alloc, clause, level_above(joint), tokens, depth)?;
-    Ok((combined(alloc, clause, joint, left, right)?, rest))
+    let (right, rest) = part_at(alloc, level_above(joint), tokens, depth)?;
+    Ok((combined(alloc, joint, left, right)?, rest))
 }
 
 // The part at the left, and all that binary operators as tight as `least` join to it.
 #[inline(never)]
 #[cycle(part)]
 #[tactic(auto, using(crate::proofs::Turns::turn, crate::proofs::Turns::no_turn, crate::proofs::Turns::no_turns, crate::proofs::Turns::end_of_turns, crate::proofs::Turns::fault_goes))]
-fn joined(
+fn joined<S: ConditionSide>(
     alloc: Global,
-    clause: Clause,
     least: u8,
-    first: Term,
+    first: Term<S>,
     tokens: &[Token],
     depth: usize,
-) -> Result<(Term, &[Token]), ParseError>
-    ensures { ParseGives (λ p. (parsed p.0, p.1.now)) result
-        (joined query_sides clause (term_at depth) least (suc (length tokens.now)) (parsed first)
-        tokens.now) }
+) -> Result<(Term<S>, &[Token]), ParseError>
+    ensures { ParseGives (λ p. (part_form S.form p.0, p.1.now)) result
+        (joined S.rules (part_at S.rules depth) least (suc (length tokens.now))
+        (part_form S.form first) tokens.now) }
 {
     let mut part = first;
     let mut rest = tokens;
@@ -498,7 +417,7 @@ fn joined(
     for _turn in 0..tokens.len() + 1 {
         match next_joint(least, rest) {
             None => return Ok((part, rest)),
-            Some((joint, behind)) => match turn_of(alloc, clause, joint, part, behind, depth) {
+            Some((joint, behind)) => match turn_of(alloc, joint, part, behind, depth) {
                 Ok((next, after)) => {
                     part = next;
                     rest = after;
@@ -508,4 +427,113 @@ fn joined(
         }
     }
     Err(ParseError::Syntax)
+}
+
+impl ConditionSide for RowSide {
+    ghost form = { row_form };
+
+    ghost rules = { row_sides };
+
+    #[inline(never)]
+    fn side_at(
+        alloc: Global,
+        tokens: &[Token],
+        _: usize,
+    ) -> Result<(RowSide, &[Token]), ParseError> {
+        match tokens {
+            [Token::Name(name), ..] => column_at(alloc, name, &tokens[1..]),
+            [Token::Number(size), ..] => Ok((number_side(alloc, false, *size)?, &tokens[1..])),
+            [Token::Sign(Sign::Minus), Token::Number(size), ..] => {
+                Ok((number_side(alloc, true, *size)?, &tokens[2..]))
+            }
+            [Token::Text(text), ..] => Ok((RowSide::Text(text.copy()?), &tokens[1..])),
+            _ => Err(ParseError::Syntax),
+        }
+    }
+
+    fn calculated(
+        alloc: Global,
+        op: ArithOp,
+        left: RowSide,
+        right: RowSide,
+    ) -> Result<RowSide, ParseError> {
+        let a = plain_side(left)?;
+        let b = plain_side(right)?;
+        expression_side(alloc, ExprOf::Arith(op, a, b))
+    }
+
+    fn encloses(side: &RowSide) -> bool {
+        matches!(side, RowSide::Plain(_))
+    }
+
+    fn operand_of(side: RowSide) -> Operand<ColumnRef> {
+        match side {
+            RowSide::Plain(e) => Operand::Plain(Box::into_inner(e)),
+            RowSide::Text(t) => Operand::Text(t),
+        }
+    }
+}
+
+/// The call of an aggregate, behind its first parenthesis. `depth` is that of `part_at`.
+pub fn call_at(
+    alloc: Global,
+    op: AggOp,
+    tokens: &[Token],
+    depth: usize,
+) -> Result<(AggCall<ColumnRef>, &[Token]), ParseError>
+    ensures { ParseGives (λ p. (call_form p.0, p.1.now)) result
+        (call_at (part_at row_sides depth) op tokens.now) }
+{
+    match op {
+        AggOp::Count => count_at(tokens),
+        AggOp::Sum | AggOp::Min | AggOp::Max => {
+            let (part, rest) = part_at(alloc, EXPRESSION, tokens, depth)?;
+            call_over(op, part, rest)
+        }
+    }
+}
+
+// HAVING has no arithmetic, and no operand of it stands in parentheses.
+impl ConditionSide for GroupSide {
+    ghost form = { group_form };
+
+    ghost rules = { group_sides };
+
+    #[inline(never)]
+    fn side_at(
+        alloc: Global,
+        tokens: &[Token],
+        depth: usize,
+    ) -> Result<(GroupSide, &[Token]), ParseError> {
+        match call_front(tokens) {
+            Some((op, rest)) => {
+                let (call, rest) = call_at(alloc, op, rest, depth)?;
+                Ok((GroupSide::Call(Box::new(alloc, call)?), rest))
+            }
+            None => {
+                let (side, rest) = RowSide::side_at(alloc, tokens, depth)?;
+                Ok((GroupSide::Row(side), rest))
+            }
+        }
+    }
+
+    fn calculated(
+        _: Global,
+        _: ArithOp,
+        _: GroupSide,
+        _: GroupSide,
+    ) -> Result<GroupSide, ParseError> {
+        Err(ParseError::Syntax)
+    }
+
+    fn encloses(_: &GroupSide) -> bool {
+        false
+    }
+
+    fn operand_of(side: GroupSide) -> Operand<ColumnRef> {
+        match side {
+            GroupSide::Row(row) => RowSide::operand_of(row),
+            GroupSide::Call(call) => Operand::Agg(Box::into_inner(call)),
+        }
+    }
 }

@@ -1,29 +1,21 @@
-use Rattle.sql_text.proofs.Imports.{◌≡◌, suc, ◌+◌, ◌-◌, ◌*◌, length, joined, parsed, query_sides, term_at}
+use Rattle.sql_text.proofs.Imports.{◌≡◌, suc, ◌+◌, ◌-◌, ◌*◌, length, joined, part_at, part_form}
 use Rattle.sql_text.proofs.term.+part.Given as goal
 
-abbrev pub decreases-term_at : goal.decreases-term_at
-decreases-term_at l = 5 * l.depth
+abbrev pub decreases-part_at : goal.decreases-part_at
+decreases-part_at g l = 3 * l.depth
 
 abbrev pub decreases-joined : goal.decreases-joined
-decreases-joined l = 5 * l.depth + 2
+decreases-joined g l = 3 * l.depth + 2
 
 abbrev pub decreases-turn_of : goal.decreases-turn_of
-decreases-turn_of l = 5 * l.depth + 1
+decreases-turn_of g l = 3 * l.depth + 1
 
 abbrev pub decreases-first_term : goal.decreases-first_term
-decreases-first_term l = 5 * l.depth + 4
-
-abbrev pub decreases-word_at : goal.decreases-word_at
-decreases-word_at l = 5 * l.depth + 2
-
-abbrev pub decreases-call_at : goal.decreases-call_at
-decreases-call_at l = 5 * l.depth + 1
-
-abbrev pub decreases-side_at : goal.decreases-side_at
-decreases-side_at l = 5 * l.depth + 3
+decreases-first_term g l = 3 * l.depth + 1
 
 abbrev pub invariant-joined-loop-turn : goal.invariant-joined-loop-turn
-invariant-joined-loop-turn l =
+invariant-joined-loop-turn g l =
+    let read = joined g.S.ConditionSide.rules (part_at g.S.ConditionSide.rules l.depth) l.least in
     let turns = suc (length l.fn.tokens) in
-    joined query_sides l.clause (term_at l.depth) l.least turns (parsed l.fn.first) l.fn.tokens
-    ≡ joined query_sides l.clause (term_at l.depth) l.least (turns - l._turn) (parsed l.part) l.rest
+    let form = part_form g.S.ConditionSide.form in
+    read turns (form l.fn.first) l.fn.tokens ≡ read (turns - l._turn) (form l.part) l.rest
