@@ -9,7 +9,7 @@ use Rattle.plan_laws.proofs.ends.KindLaws.{collect-gives, expression-gives, filt
 use Rattle.plan_laws.proofs.ends.ResizeLaws.{resize-gives}
 use Rattle.plan_laws.proofs.ends.SortLaws.{merge-gives, sort-gives}
 
--- What a kind gave by the end of a run is the first of what it makes where nobody closes an input.
+-- What a kind gave so far is the first of what it makes where nobody closes an input.
 pub complete-kind : (parts : RowsOfSources) (s : Spec) (ins outs : List Stream) (fs : List Flow)
     → Gives parts s ins outs → AllZip IsFront ins fs
     → CompletesKind (MakesRows parts s) (is_certain parts s fs) (is_needed parts s fs) fs outs

@@ -15,6 +15,7 @@ pub mod Needs
 pub mod Queries
 pub mod ResizeLaws
 pub mod ListLaws
+pub mod GrownNodes
 pub mod GrownLists
 pub mod SortLaws
 pub mod GroupLaws

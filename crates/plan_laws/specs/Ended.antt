@@ -1,15 +1,15 @@
--- The streams of a run that has ended.
-use Rattle.exec_laws.specs.Names.{IsDone, box_at}
+-- The streams of a run, at one moment and when it has ended.
+use Rattle.exec_laws.specs.Names.{AllNodesOver, Snapshot, box_at}
 use Rattle.plan_laws.specs.Types.{GivesIf}
 use Rattle.plan_laws.specs.Streams.{RowsOfSources, SourceRows, Stream}
 use Rattle.plan_laws.specs.Plans.{all_valid, sources_rows}
 use Rattle.plan_laws.specs.declared.nodes.DraftNode.{DraftNode}
 use Rattle.plan_laws.specs.declared.nodes.NodePort.{NodePort}
 use Rattle.plan_laws.specs.Drafts.{no_draft, ports_of, with_nodes}
-use Rattle.proc_api.specs.Names.{ArePortsOf, BoxPicture, FileRead, GrowthForm, IsSourceKind, Keeps, Lists, NoFile, PartFile, PartsFile, chunk_rows, file_read, input_count, is_of, kept_input, kept_inputs, kept_output, kept_outputs, last_count, output_count}
+use Rattle.proc_api.specs.Names.{ArePortsOf, BoxPicture, FileRead, GrowthForm, IsSourceKind, Keeps, Lists, NoFile, PartFile, PartsFile, chunk_rows, file_read, input_count, is_ended, is_of, kept_input, kept_output, last_count, output_count}
 unfoldable use Rattle.proc_api.specs.Names.{wire_at}
 use Rattle.proc_api.specs.Prelude.{ColumnType, Kind, PartSpec, Spec, Table, Wire, kind_of}
-use Rattle.proc_api.specs.SpecContracts.{IsUngrown}
+use Rattle.proc_api.specs.SpecContracts.{IsUngrown, StandStill}
 use Rattle.query_model.specs.Database.{paths_in}
 use Rattle.query_model.specs.ListFiles.{list_bad_line}
 use Rattle.query_model.specs.Names.{Files, UsedPart, bad_line_in, bad_place, file_bytes, good_rows, part_records}
@@ -70,11 +70,11 @@ sources_of_files files s = source_in files (file_read (Some s))
 abbrev pub chunk_types : List Table → List (List ColumnType)
 chunk_types chunks = map (λ (t : Table). t.types) chunks
 
--- what a box pulled at an input, which is done where the box didn't close it
+-- what a box pulled at an input, which is done where the box saw its end and didn't close it
 abbrev pub in_stream : BoxPicture → Lists → ℕ → Stream
 in_stream p ins i = record {
   rows = chunk_rows (ins i);
-  done = not (kept_input p i).fin_in;
+  done = is_ended (kept_input p i) && not (kept_input p i).fin_in;
   types = chunk_types (ins i);
 }
 
@@ -104,10 +104,9 @@ pub record KeepsContract (s : Spec) (files : Files) (takes gives : ℕ) (p : Box
   pub loaded : p.spec ≡ Some s
   pub told : IsSourceKind (kind_of s) → p.files ≡ Some files
   pub ports : ArePortsOf (Some s) p.growth takes gives
+  pub still : StandStill (Some s) p.notes.view takes gives
   pub few_inputs : takes ≤ 32
   pub few_outputs : gives ≤ 16
-  pub inputs : kept_inputs p ≡ takes
-  pub outputs : kept_outputs p ≡ gives
   pub keeps : Keeps p ins outs
   pub nothing_past : NothingPast takes ins
   pub nothing_pushed_past : NothingPast gives outs
@@ -223,16 +222,22 @@ pub record HasGrownByLists (files : Files) (nodes : List DraftNode) (wires more 
       → (box_at boxes n).spec ≡ Some (list_source list)
       → (input_count (wires ++ more) n ≡ 0) ⊎ HasListed list files (wires ++ more) boxes n
 
--- An ended run by lawful boxes, of which the first were loaded with the specs of these nodes. The
--- sources tell these files.
+-- One moment of a run by lawful boxes, of which the first were loaded with the specs of these
+-- nodes. The sources tell these files.
+pub record LawfulSnapshot (files : Files) (nodes : List DraftNode) (boxes : List BoxPicture) : Type
+    0 where
+  pub more : List Wire
+  pub count : length nodes ≤ length boxes
+  pub specs : (n : ℕ) (z : DraftNode) → n < length nodes → slice_index_or nodes n z ≡ z
+      → (box_at boxes n).spec ≡ Some z.spec
+  pub lawful : (n : ℕ) → n < length boxes → (box_at boxes n).lawful ≡ true
+  pub told : (n : ℕ) (s : Spec) → n < length boxes → (box_at boxes n).spec ≡ Some s
+      → IsSourceKind (kind_of s) → (box_at boxes n).files ≡ Some files
+  pub grown : HasGrownByLists files nodes (with_nodes nodes no_draft).wires more boxes
+  pub lists : Snapshot ((with_nodes nodes no_draft).wires ++ more) boxes
+
+-- such a run that has ended
 pub record HasEnded (files : Files) (nodes : List DraftNode) (boxes : List BoxPicture) : Type 0
   where
-    pub more : List Wire
-    pub count : length nodes ≤ length boxes
-    pub specs : (n : ℕ) (z : DraftNode) → n < length nodes → slice_index_or nodes n z ≡ z
-        → (box_at boxes n).spec ≡ Some z.spec
-    pub lawful : (n : ℕ) → n < length boxes → (box_at boxes n).lawful ≡ true
-    pub told : (n : ℕ) (s : Spec) → n < length boxes → (box_at boxes n).spec ≡ Some s
-        → IsSourceKind (kind_of s) → (box_at boxes n).files ≡ Some files
-    pub grown : HasGrownByLists files nodes (with_nodes nodes no_draft).wires more boxes
-    pub done : IsDone ((with_nodes nodes no_draft).wires ++ more) boxes
+    pub at_end : LawfulSnapshot files nodes boxes
+    pub over : AllNodesOver ((with_nodes nodes no_draft).wires ++ at_end.more) boxes at_end.lists

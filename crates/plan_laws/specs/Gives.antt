@@ -1,4 +1,4 @@
--- What each kind gives by the end of a run.
+-- What each kind has given at any moment of a run.
 use Rattle.std.specs.Prelude.{Bool, IsPermutation, IsSorted, List, Some, [], false, length, true, ◌++◌, ◌<◌, ◌≡◌, ◌≤◌, ◌⊎◌}
 use Rattle.plan_laws.specs.Prelude.{AllByRecursion, Contains, KeyPair, Row, SortKey, Span, enough, is_lt, joined_rows, limited, row_cmp}
 use Rattle.plan_laws.specs.Streams.{SourceRows, Stream, all_done, any_done, rows_together, stream_rows}
@@ -9,7 +9,7 @@ pub record IsMergeOf (keys : List SortKey) (lists : List (List Row)) (out : List
   pub in_order : AllByRecursion (λ rows. IsSorted (row_cmp keys) rows) lists
       → IsSorted (row_cmp keys) out
 
--- ---- what each kind gives by the end of a run
+-- ---- what each kind has given at any moment of a run
 
 -- The first of these rows; all of them where the port was finished.
 pub record GivesFront (rows : List Row) (o : Stream) : Type 0 where

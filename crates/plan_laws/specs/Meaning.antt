@@ -41,7 +41,7 @@ meant_by parts k (node ∷ nodes) before after m =
     nodes
     m.0 after m.2
 
--- The end of a run as a part of the plan's meaning.
+-- One moment of a run as a part of the plan's meaning.
 pub record Completes (parts : RowsOfSources) (nodes : List DraftNode) (before : List Flow)
     (start after : List Stream) (r : PlanRuns parts nodes start after) : Type 0 where
   pub flows : List Flow

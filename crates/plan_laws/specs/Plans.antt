@@ -1,6 +1,6 @@
 -- The plan of a query as a list of nodes, and what it answers.
-use Rattle.std.specs.Prelude.{Bool, List, None, Option, Some, [], cond, false, flat_map, length, map, sum_by, true, ℕ, ⊤, ◌&&◌, ◌++◌, ◌+◌, ◌<◌, ◌∷◌, ◌≡◌, ◌≤◌, ◌⊎◌, ◌*◌}
-use Rattle.plan_laws.specs.Prelude.{AllByRecursion, Cond, Expr, GroupSpec, IsOrderedAnswer, JoinSpec, Kind, Row, SortKey, SortSpec, Span, Spec, default_states, enough, groups_or_default, item_row, joined_rows, kind_of, list_all, partial_rows, rows_where, same_kind}
+use Rattle.std.specs.Prelude.{Bool, List, None, Option, Some, [], cond, false, flat_map, length, map, sum_by, true, ℕ, ⊤, ◌&&◌, ◌++◌, ◌+◌, ◌<◌, ◌∷◌, ◌≡◌, ◌≤◌, ◌*◌}
+use Rattle.plan_laws.specs.Prelude.{AllByRecursion, Cond, Expr, GroupSpec, JoinSpec, Kind, Row, SortKey, SortSpec, Span, Spec, default_states, enough, groups_or_default, item_row, joined_rows, kind_of, list_all, partial_rows, rows_where, same_kind}
 use Rattle.plan_laws.specs.declared.nodes.DraftNode.{DraftNode}
 use Rattle.plan_laws.specs.Blocks.{nodes_behind, joint_node, lane_nodes, source_nodes}
 use Rattle.plan_laws.specs.Roles.{IsSourceSpec, is_valid_source, source_list}
@@ -236,12 +236,6 @@ pub record StopsEarly (p : SelectPlan) (rows : List Row) (v n : Bool) : Type 0 w
 abbrev pub IsCut : RowsOfSources → SelectPlan → Type 0
 IsCut parts p = StopsEarly p (read_rows parts p.sources p.join) (plan_valid parts p)
     (join_valid parts p.join)
-
--- What was collected is an answer over the rows before the first bad record of each part. All parts
--- are valid, or a limit cut the run short.
-pub record PlanAnswers (parts : RowsOfSources) (p : SelectPlan) (rows : List Row) : Type 0 where
-  pub answer : IsOrderedAnswer (plan_keys p.order) p.limit (plan_rows parts p) rows
-  pub valid : (plan_valid parts p ≡ true) ⊎ IsCut parts p
 
 -- ---- the rows that the nodes of a kind pull
 

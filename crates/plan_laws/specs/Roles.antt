@@ -13,7 +13,7 @@ abbrev pub IsAmong : List Types → Types → Type 0
 IsAmong ins t = Any (λ u. t ≡ u) ins
 
 pub record Role : Type 1 where
-  -- what it gives by the end of a run
+  -- what it has given at any moment of a run
   pub gives : RowsOfSources → (ins outs : List Stream) → Type 0
   -- what it makes of all that could pass
   pub makes : RowsOfSources → (ins outs : List (List Row)) → Type 0
@@ -108,7 +108,7 @@ role_of (spec.MergeSorted order) =
 
 -- ---- what clauses cite of it
 
--- what a kind gives by the end of a run
+-- what a kind has given at any moment of a run
 abbrev pub Gives : RowsOfSources → Spec → List Stream → List Stream → Type 0
 Gives parts s ins outs = (role_of s).gives parts ins outs
 

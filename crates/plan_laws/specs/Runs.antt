@@ -81,8 +81,7 @@ pulled_rows k n (node ∷ nodes) pulled =
     if_kind k node (length (rows_together (stream_rows (map pulled (ports_of n 0 node.takes)))))
     + pulled_rows k (suc n) nodes pulled
 
--- An ended run: what each node gave, what was pulled along each wire, and that the last node has
--- all of its input.
+-- One moment of a run: what each node gave, and what was pulled along each wire.
 pub record HasRun (parts : RowsOfSources) (nodes : List DraftNode) (pulled pushed : NodePort
     → Stream) : Type 0 where
   pub each : EachGives parts 0 nodes pulled pushed

@@ -1,5 +1,4 @@
--- What passes at a port in a run that has ended, and what would have passed if nobody had closed an
--- input.
+-- What passed at a port at one moment of a run, and what would pass if nobody closed an input.
 use Rattle.std.specs.Prelude.{Bool, List, [], flat_map, map, ⊤, ◌∷◌}
 use Rattle.plan_laws.specs.Prelude.{ColumnType, Row, Spec, list_all, list_any}
 
@@ -18,8 +17,8 @@ RowsOfSources = Spec → SourceRows
 abbrev pub rows_together : List (List Row) → List Row
 rows_together lists = flat_map (λ rows. rows) lists
 
--- What passed by the end: the rows, and whether the port was finished by its producer. At an input
--- that counts only where all was pulled.
+-- What passed so far: the rows, and whether the port was finished by its producer. At an input that
+-- counts only where all was pulled.
 pub record Stream : Type 0 where
   pub rows : List Row
   pub done : Bool

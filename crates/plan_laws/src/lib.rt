@@ -6,20 +6,23 @@
 //! open, is a graph (`proofs/graph`), which `build` makes.
 //!
 //! **Meaning.** `specs/Plans.antt` has the nodes of a SELECT's plan, step by step, and what they
-//! answer; `select_plan` of `specs/Steps.antt` is what a query fills in. What passes at a port by
-//! the end of a run is a `Stream`, and `specs/Roles.antt` says what each kind gives by then, and
-//! what it makes where nobody closes an input. Every ended run of a list of nodes extends to such a
-//! whole run (`completes` of `proofs/meaning/Completing.antt`), so that a limit costs no second
-//! composition. `collector_gathers` of `proofs/meaning/Answers.antt` is the law, and
-//! `query-answers` of `proofs/meaning/Queries.antt` ties it to the query.
+//! answer; `select_plan` of `specs/Steps.antt` is what a query fills in. What passed at a port at
+//! one moment is a `Stream`, and `specs/Roles.antt` says what each kind has given by then, and what
+//! it makes where nobody closes an input. Every run of a list of nodes extends to such a whole run
+//! (`completes` of `proofs/meaning/Completing.antt`), so that a limit costs no second composition.
+//! `collector_gathers` of `proofs/meaning/Answers.antt` is the law, and `query-answers` of
+//! `proofs/meaning/Queries.antt` ties it to the query.
 //!
-//! **Ends.** `specs/Ended.antt` reads the streams off the boxes and lists of an ended run.
+//! **Ends.** `specs/Ended.antt` reads the streams off the boxes and lists of one moment of a run.
 //! `proofs/ends/KindLaws.antt` and the files beside it say, a kind at a time, that the processor
 //! contract gives the kind's promises. `proofs/ends/LaidPlans.antt` has lists of nodes that are
 //! laid down over open ends, one behind another, behind other ends and with higher ranks; a SELECT
-//! is one, and so is a union of two (`proofs/ends/UnionPlans.antt`). `laid-ended` of
-//! `proofs/ends/LaidEnds.antt` is the law for all of them, and `planned-ended` of
-//! `proofs/ends/Queries.antt` that for the plan of a typed query.
+//! is one, and so is a union of two (`proofs/ends/UnionPlans.antt`). `laid-run` of
+//! `proofs/ends/LaidEnds.antt` is the law for all of them at every moment, and `laid-ended` follows
+//! at the end; `planned-front` and `planned-ended` of `proofs/ends/Queries.antt` are those for the
+//! plan of a typed query. A graph that grew is that of one list (`specs/Grown.antt`): the first
+//! nodes, and behind them the new nodes of each growth (`grown-graph-is-that-of-one-list` of
+//! `proofs/ends/GrownNodes.antt`). Lists of parts are an instance.
 #![tactic(auto)]
 
 mod builder;

@@ -1,9 +1,9 @@
--- The end of a run of a plan's graph, by its nodes and its collector.
-use Rattle.plan_laws.proofs.Imports.{KeepsWorked, List, Some, [], ap, arith, get_or, inl, inr, is_some, length, length-append, list_source, map, part_source, refl, subst, suc, sym, true, worked-where-fit, zero, ℕ, ◌++◌, ◌+◌, ◌<◌, ◌∙◌, ◌∷◌, ◌≡◌, ◌≤◌, ◌⊎◌, AllByRecursion, AllFitDraft, AllPull, ArePortsOf, BoxPicture, Draft, DraftNode, EachGivesIf, Files, GivesIf, HasRun, IsDraftGraph, KeepsRows, Lists, NodeForm, NodePort, PartSpec, Pulls, Spec, Stream, Wire, rows_together, box_at, collect_node, collector, consumer_of, few-inputs, few-outputs, forms, get_or-map, get_or_at, get_or_default, input_count, length-map, map-append, no_draft, node_form, output-below-count, output_count, part_spec, ports_of, producer_of, stream_rows, spec_form, unboxed, wire_at, with_nodes, BoxGives, HasEnded, HasListed, HasPulled, KeepsContract, IsListedNode, IsOrdinary, IsReady, IsUngrown, in_stream, out_stream, sources_of_files, stream_pulled_at, stream_pushed_at, reading_in, IsWorkOf}
+-- One moment of a run of a plan's graph, by its nodes and its collector.
+use Rattle.plan_laws.proofs.Imports.{KeepsWorked, List, Some, [], ap, arith, get_or, inl, inr, is_some, length, length-append, list_source, map, part_source, refl, subst, suc, sym, true, worked-where-fit, zero, ℕ, ◌++◌, ◌+◌, ◌<◌, ◌∙◌, ◌∷◌, ◌≡◌, ◌≤◌, ◌⊎◌, AllByRecursion, AllFitDraft, AllPull, ArePortsOf, BoxPicture, Draft, DraftNode, EachGivesIf, Files, GivesIf, HasRun, IsDraftGraph, KeepsRows, Lists, NodeForm, NodePort, PartSpec, Pulls, Spec, Stream, Wire, rows_together, box_at, collect_node, collector, consumer_of, few-inputs, few-outputs, forms, get_or-map, get_or_at, get_or_default, input_count, length-map, map-append, no_draft, node_form, output_count, part_spec, ports_of, producer_of, stream_rows, spec_form, unboxed, wire_at, with_nodes, BoxGives, HasListed, LawfulSnapshot, HasPulled, KeepsContract, IsListedNode, IsOrdinary, IsReady, IsUngrown, in_stream, out_stream, sources_of_files, stream_pulled_at, stream_pushed_at, reading_in, IsWorkOf, HasFinished}
 use Rattle.plan_laws.proofs.meaning.Same.{each-same, graphs-same}
 use Rattle.plan_laws.proofs.meaning.Typing.{each-typed, Typed}
 use Rattle.plan_laws.proofs.graph.GraphLaws.{ranks-count}
-use Rattle.plan_laws.proofs.ends.GrownLists.{at-recursion}
+use Rattle.plan_laws.proofs.ends.GrownNodes.{at-recursion}
 use Rattle.plan_laws.proofs.ends.Pulled.{kept-counted}
 use Rattle.plan_laws.proofs.ends.Pulls.{IsWireOf, all-pull, wire-pulls}
 use Rattle.plan_laws.proofs.ends.ListLaws.{IsFed, IsGrownList, few-paths-in, list-gives}
@@ -54,14 +54,15 @@ collect-spec s e = grind arith
 ordinary : (z : DraftNode) → IsReady z → IsUngrown z.spec → IsOrdinary z
 ordinary z ready u = grind arith
 
--- A collector has all of its input, and it gathered that.
-pub record HasCollected (p : BoxPicture) (ins : Lists) : Type 0 where
+-- The collector at a node gathered what it pulled, and has all of its input once it has finished.
+pub record HasCollected (wires : List Wire) (n : ℕ) (p : BoxPicture) (ins : Lists) : Type 0 where
   pub loaded : p.spec ≡ Some collect_node.spec
-  pub done : (in_stream p ins 0).done ≡ true
   pub gathered : p.work.gathered ≡ ins 0
+  pub done : HasFinished (input_count wires n) (output_count wires n) p
+      → (in_stream p ins 0).done ≡ true
 
 module _ (files : Files) (nodes : List DraftNode) (boxes : List BoxPicture)
-    (h : HasEnded files nodes boxes) where
+    (h : LawfulSnapshot files nodes boxes) where
   abbrev plan_wires : List Wire
   plan_wires = (with_nodes nodes no_draft).wires
 
@@ -88,14 +89,14 @@ module _ (files : Files) (nodes : List DraftNode) (boxes : List BoxPicture)
     box-kept : (k takes gives : ℕ) (s : Spec) → k < length boxes → (box_at boxes k).spec ≡ Some s
         → input_count wires k ≡ takes → output_count wires k ≡ gives
         → ArePortsOf (Some s) (box_at boxes k).growth takes gives → takes ≤ 32 → gives ≤ 16
-        → KeepsContract s files takes gives (box_at boxes k) (h.done.pulled k) (h.done.pushed k)
+        → KeepsContract s files takes gives (box_at boxes k) (h.lists.pulled k) (h.lists.pushed k)
     box-kept k takes gives s lt loaded ins outs ports few_inputs few_outputs =
-        grind (arith, h.done.each k lt (ap is_some loaded) (h.lawful k lt), loaded)
+        grind (arith, h.lists.each k lt (ap is_some loaded) (h.lawful k lt), loaded)
 
     -- the box of an ordinary node keeps its contract of the node's lists
     node-kept : (k : ℕ) (z : DraftNode) → node_at k z → IsOrdinary z
-        → KeepsContract z.spec files z.takes z.gives (box_at boxes k) (h.done.pulled k)
-        (h.done.pushed k)
+        → KeepsContract z.spec files z.takes z.gives (box_at boxes k) (h.lists.pulled k)
+        (h.lists.pushed k)
     node-kept k z at o =
         let takes = h.grown.inputs k z at.0 at.1 o.ungrown in
         let ranks : List ℕ = (with_nodes nodes no_draft).ranks in
@@ -109,34 +110,31 @@ module _ (files : Files) (nodes : List DraftNode) (boxes : List BoxPicture)
     -- an input of a list has the first of what the source of its part gave
     listed-fed : (list : PartSpec) (n i : ℕ) (path : List ℕ) → n < length boxes
         → IsListedNode list wires boxes n i path
-        → IsFed files (reading_in list) (in_stream (box_at boxes n) (h.done.pulled n) i) (suc i)
+        → IsFed files (reading_in list) (in_stream (box_at boxes n) (h.lists.pulled n) i) (suc i)
         path
     listed-fed list n i path lt b =
         let part : PartSpec = part_spec (reading_in list) (suc i) path in
         let kept = box-kept b.node 0 1 (part_source part) b.in_range b.loaded b.inputs b.outputs
         (refl, refl) (omega arith) (omega arith) in
         let gives = part-gives part files 0 1 b.node (box_at boxes b.node)
-        (h.done.pulled b.node) (h.done.pushed b.node) kept in
+        (h.lists.pulled b.node) (h.lists.pushed b.node) kept in
         record {
-          pushed = out_stream (box_at boxes b.node) (h.done.pushed b.node) 0;
+          pushed = out_stream (box_at boxes b.node) (h.lists.pushed b.node) 0;
           gives = gives.gives tt;
           typed = (gives.typed tt).0;
-          pulls = subst (λ (w : Wire). Pulls (stream_pulled_at boxes h.done.pulled (consumer_of w))
-              (stream_pushed_at boxes h.done.pushed (producer_of w))) b.wire
-              (wire-pulls wires boxes h.done b.edge b.edge_in_range
-              (subst (IsWireOf wires boxes) (sym b.wire) (record {
-                from_in_range = b.in_range;
-                from_born = ap is_some b.loaded;
+          pulls = subst (λ (w : Wire). Pulls (stream_pulled_at boxes h.lists.pulled (consumer_of w))
+              (stream_pushed_at boxes h.lists.pushed (producer_of w))) b.wire
+              (wire-pulls wires boxes h.lists b.edge b.edge_in_range
+              (subst (IsWireOf boxes) (sym b.wire) (record {
                 from_lawful = h.lawful b.node b.in_range;
                 to_lawful = h.lawful n lt;
-                out_in_range = omega (arith, b.outputs);
               })));
         }
 
     list-kept : (k : ℕ) (list : PartSpec) → k < length nodes
         → (box_at boxes k).spec ≡ Some (list_source list) → output_count wires k ≡ 1
         → GivesIf (sources_of_files files) (list_source list) []
-        (out_stream (box_at boxes k) (h.done.pushed k) 0 ∷ [])
+        (out_stream (box_at boxes k) (h.lists.pushed k) 0 ∷ [])
     list-kept k list lt loaded one = go (h.grown.lists k list lt loaded)
       where
         in_boxes : k < length boxes
@@ -144,18 +142,18 @@ module _ (files : Files) (nodes : List DraftNode) (boxes : List BoxPicture)
 
         gives : input_count wires k ≤ 32
             → (input_count wires k ≡ 0) ⊎ IsGrownList list files (input_count wires k)
-            (box_at boxes k) (h.done.pulled k)
+            (box_at boxes k) (h.lists.pulled k)
             → GivesIf (sources_of_files files) (list_source list) []
-            (out_stream (box_at boxes k) (h.done.pushed k) 0 ∷ [])
+            (out_stream (box_at boxes k) (h.lists.pushed k) 0 ∷ [])
         gives few grown =
-            list-gives list files (input_count wires k) k (box_at boxes k) (h.done.pulled k)
-            (h.done.pushed k)
+            list-gives list files (input_count wires k) k (box_at boxes k) (h.lists.pulled k)
+            (h.lists.pushed k)
             (box-kept k (input_count wires k) 1 (list_source list) in_boxes loaded refl one
             (rw one at (h.grown.list_ports k list lt loaded)) few (omega arith)) grown
 
         go : (input_count wires k ≡ 0) ⊎ HasListed list files wires boxes k
             → GivesIf (sources_of_files files) (list_source list) []
-            (out_stream (box_at boxes k) (h.done.pushed k) 0 ∷ [])
+            (out_stream (box_at boxes k) (h.lists.pushed k) 0 ∷ [])
         go (inl none) = gives (omega (arith, none)) (inl none)
         go (inr w) =
             let count = w.count in
@@ -164,19 +162,19 @@ module _ (files : Files) (nodes : List DraftNode) (boxes : List BoxPicture)
 
     -- the box of each node gives what its kind promises
     node-gives : (k : ℕ) (z : DraftNode) → node_at k z
-        → BoxGives z.spec files z.takes z.gives k (box_at boxes k) (h.done.pulled k)
-        (h.done.pushed k)
+        → BoxGives z.spec files z.takes z.gives k (box_at boxes k) (h.lists.pulled k)
+        (h.lists.pushed k)
     node-gives k z at = go (at-recursion IsReady nodes ready k z at.0 at.1)
       where
         go : IsReady z
-            → BoxGives z.spec files z.takes z.gives k (box_at boxes k) (h.done.pulled k)
-            (h.done.pushed k)
-        go (inl o) = o.gives files z.takes z.gives k (box_at boxes k) (h.done.pulled k)
-            (h.done.pushed k) (node-kept k z at o)
+            → BoxGives z.spec files z.takes z.gives k (box_at boxes k) (h.lists.pulled k)
+            (h.lists.pushed k)
+        go (inl o) = o.gives files z.takes z.gives k (box_at boxes k) (h.lists.pulled k)
+            (h.lists.pushed k) (node-kept k z at o)
         go (inr l) =
             let p : BoxPicture = box_at boxes k in
-            let ins : Lists = h.done.pulled k in
-            let outs : Lists = h.done.pushed k in
+            let ins : Lists = h.lists.pulled k in
+            let outs : Lists = h.lists.pushed k in
             subst (λ s. BoxGives s files z.takes z.gives k p ins outs) (sym l.is)
             (subst (λ m. BoxGives (list_source l.list) files m z.gives k p ins outs) (sym l.takes)
             (subst (λ m. BoxGives (list_source l.list) files 0 m k p ins outs) (sym l.gives)
@@ -184,35 +182,27 @@ module _ (files : Files) (nodes : List DraftNode) (boxes : List BoxPicture)
             (gives-at k z at ∙ l.gives))))
 
     -- the nodes' promises and the fronts along the wires
-    ended-run : EachGivesIf (sources_of_files files) 0 nodes (stream_pulled_at boxes h.done.pulled)
-        (stream_pushed_at boxes h.done.pushed) × AllPull (stream_pulled_at boxes h.done.pulled)
-        (stream_pushed_at boxes h.done.pushed) plan_wires
-    ended-run =
+    nodes-run : EachGivesIf (sources_of_files files) 0 nodes (stream_pulled_at boxes h.lists.pulled)
+        (stream_pushed_at boxes h.lists.pushed) × AllPull (stream_pulled_at boxes h.lists.pulled)
+        (stream_pushed_at boxes h.lists.pushed) plan_wires
+    nodes-run =
         let d : Draft = with_nodes nodes no_draft in
         let ranks : length d.ranks ≡ length nodes = ranks-count nodes no_draft ∙ omega arith in (
-          each-gives files boxes h.done.pulled h.done.pushed 0 nodes (λ k z lt is.
+          each-gives files boxes h.lists.pulled h.lists.pushed 0 nodes (λ k z lt is.
               let here : k ≡ 0 + k = omega arith in
               rw here at (node-gives k z (lt, is))),
-          all-pull plan_wires h.more boxes h.done (λ e lt.
+          all-pull plan_wires h.more boxes h.lists (λ e lt.
               let edge = g.graph.so_far.edges e lt in
-              let w : Wire = wire_at plan_wires e in
-              let from_node : w.from < length nodes = omega (arith, edge.from_in_range, ranks) in
-              let z : DraftNode = get_or nodes w.from collect_node in
-              let out = output-below-count d.ranks d.wires [] g.graph e lt in
-              record {
-                from_in_range = omega (arith, edge.from_in_range, h.count, ranks);
-                from_born = ap is_some (h.specs w.from z from_node
-                    (get_or_default nodes w.from z collect_node from_node));
+              let w : Wire = wire_at plan_wires e in record {
                 from_lawful = h.lawful w.from (omega (arith, edge.from_in_range, h.count, ranks));
                 to_lawful = h.lawful w.to (omega (arith, edge.to_in_range, h.count, ranks));
-                out_in_range = omega (arith, out, h.grown.outputs w.from from_node);
               }),
         )
 
     collected : (body : List DraftNode) (rank last : ℕ)
         → forms nodes ≡ forms (body ++ collector rank ∷ [])
         → length (body ++ collector rank ∷ []) ≡ last + 1
-        → HasCollected (box_at boxes last) (h.done.pulled last)
+        → HasCollected wires last (box_at boxes last) (h.lists.pulled last)
     collected body rank last e count =
         let steps : List DraftNode = body ++ collector rank ∷ [] in
         let same : length nodes ≡ length steps = grind (arith, length-map) in
@@ -224,40 +214,44 @@ module _ (files : Files) (nodes : List DraftNode) (boxes : List BoxPicture)
         let is : z.spec ≡ collect_node.spec =
         collect-spec z.spec (ap (λ (f : NodeForm). f.spec) form) in
         let there : node_at last z = (lt, get_or_default nodes last z (collector rank) lt) in
+        let ungrown : IsUngrown z.spec = subst IsUngrown (sym is) tt in
         let k = node-kept last z there
-        (ordinary z (at-recursion IsReady nodes ready last z there.0 there.1)
-        (subst IsUngrown (sym is) tt)) in
+        (ordinary z (at-recursion IsReady nodes ready last z there.0 there.1) ungrown) in
         let b : BoxPicture = box_at boxes last in
-        let ins : Lists = h.done.pulled last in
+        let ins : Lists = h.lists.pulled last in
         let loaded : b.spec ≡ Some collect_node.spec = k.loaded ∙ ap (λ s. Some s) is in
-        let keeps : KeepsWorked collect_node.spec b ins (h.done.pushed last) =
-        worked-where-fit collect_node.spec b ins (h.done.pushed last) (λ i n d lt. tt)
-        (subst (λ s. KeepsRows s b ins (h.done.pushed last)) loaded k.keeps.rows) in
+        let keeps : KeepsWorked collect_node.spec b ins (h.lists.pushed last) =
+        worked-where-fit collect_node.spec b ins (h.lists.pushed last) (λ i n d lt. tt)
+        (subst (λ s. KeepsRows s b ins (h.lists.pushed last)) loaded k.keeps.rows) in
         record {
           loaded = loaded;
-          done = collector-done b ins (h.done.pushed last) loaded k.keeps
-              (k.outputs ∙ ap (λ (f : NodeForm). f.gives) form);
-          gathered = collector-gathered b ins (h.done.pushed last)
+          gathered = collector-gathered b ins (h.lists.pushed last)
               (subst (λ s. IsWorkOf s b.work) loaded k.keeps.idle) keeps;
+          done = collector-done b ins (h.lists.pushed last) (input_count wires last)
+              (output_count wires last) loaded k.keeps
+              (h.grown.inputs last z lt there.1 ungrown ∙ takes-at last z there
+              ∙ ap (λ (f : NodeForm). f.takes) form)
+              (gives-at last z there ∙ ap (λ (f : NodeForm). f.gives) form);
         }
 
 -- ---- a list of nodes
 
--- The end of a run of the graph of a list of nodes by lawful boxes loaded with copies of its nodes'
--- specs: what its nodes gave, the rows that each box counts, and that the collector, its last node,
--- has all of its input.
+-- One moment of a run of the graph of a list of nodes by lawful boxes loaded with copies of its
+-- nodes' specs: what its nodes gave, what the collector, its last node, gathered, and the rows that
+-- each box counts.
 pub record ListRun (files : Files) (steps nodes : List DraftNode) (boxes : List BoxPicture)
-    (h : HasEnded files nodes boxes) (last : ℕ) : Type 0 where
-  pub run : HasRun (sources_of_files files) steps (stream_pulled_at boxes h.done.pulled)
-      (stream_pushed_at boxes h.done.pushed)
-  pub collected : HasCollected (box_at boxes last) (h.done.pulled last)
+    (h : LawfulSnapshot files nodes boxes) (last : ℕ) : Type 0 where
+  pub run : HasRun (sources_of_files files) steps (stream_pulled_at boxes h.lists.pulled)
+      (stream_pushed_at boxes h.lists.pushed)
+  pub collected : HasCollected (wires files nodes boxes h) last (box_at boxes last)
+      (h.lists.pulled last)
   pub counted : (n : ℕ) (z : DraftNode) → n < length nodes → get_or nodes n z ≡ z
       → IsUngrown z.spec → HasPulled (box_at boxes n)
       (length (rows_together
-      (stream_rows (map (stream_pulled_at boxes h.done.pulled) (ports_of n 0 z.takes)))))
+      (stream_rows (map (stream_pulled_at boxes h.lists.pulled) (ports_of n 0 z.takes)))))
 
 pub list-run : (files : Files) (body : List DraftNode) (rank : ℕ) (nodes : List DraftNode)
-    (boxes : List BoxPicture) (h : HasEnded files nodes boxes) (last : ℕ) → IsDraftGraph nodes
+    (boxes : List BoxPicture) (h : LawfulSnapshot files nodes boxes) (last : ℕ) → IsDraftGraph nodes
     → AllFitDraft (body ++ collector rank ∷ []) no_draft
     → forms nodes ≡ forms (body ++ collector rank ∷ [])
     → Typed (body ++ collector rank ∷ []) [] []
@@ -265,9 +259,9 @@ pub list-run : (files : Files) (body : List DraftNode) (rank : ℕ) (nodes : Lis
     → ListRun files (body ++ collector rank ∷ []) nodes boxes h last
 list-run files body rank nodes boxes h last g fit e typed ready count =
     let steps : List DraftNode = body ++ collector rank ∷ [] in
-    let run = ended-run files nodes boxes h g ready in
-    let pulled : NodePort → Stream = stream_pulled_at boxes h.done.pulled in
-    let pushed : NodePort → Stream = stream_pushed_at boxes h.done.pushed in
+    let run = nodes-run files nodes boxes h g ready in
+    let pulled : NodePort → Stream = stream_pulled_at boxes h.lists.pulled in
+    let pushed : NodePort → Stream = stream_pushed_at boxes h.lists.pushed in
     let along : AllPull pulled pushed (with_nodes steps no_draft).wires =
     subst (λ (d : Draft). AllPull pulled pushed d.wires) (graphs-same nodes steps no_draft e)
     run.1 in
@@ -278,8 +272,8 @@ list-run files body rank nodes boxes h last g fit e typed ready count =
       run = record { each = each; along = along };
       collected = collected files nodes boxes h g ready body rank last e count;
       counted = λ n z lt is ungrown.
-          rw (ports-at (λ m (q : NodePort). in_stream (box_at boxes m) (h.done.pulled m) q.port) n 0
-          z.takes) (kept-counted z.spec files z.takes z.gives (box_at boxes n) (h.done.pulled n)
-          (h.done.pushed n) (node-kept files nodes boxes h g ready n z (lt, is)
+          rw (ports-at (λ m (q : NodePort). in_stream (box_at boxes m) (h.lists.pulled m) q.port) n
+          0 z.takes) (kept-counted z.spec files z.takes z.gives (box_at boxes n) (h.lists.pulled n)
+          (h.lists.pushed n) (node-kept files nodes boxes h g ready n z (lt, is)
           (ordinary z (at-recursion IsReady nodes ready n z lt is) ungrown)) n);
     }

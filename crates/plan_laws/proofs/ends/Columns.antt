@@ -1,6 +1,6 @@
 -- The columns of a table that a query names are those of the table that its plan reads, and its
 -- checked types are those of the rows that its items make.
-use Rattle.plan_laws.proofs.Imports.{Bool, IfSome, List, None, Option, Some, [], ap, arith, bytes_eq, cond, false, filter, flat_map, length, map, not, option_map, refl, slice_index_or, subst, suc, true, ℕ, ◌++◌, ◌+◌, ◌<◌, ◌==◌, ◌∷◌, ◌≡◌, All, All-cons, All-head, All-nil, All-tail, AreColumnsFrom, AreKeyPairs, ArePlainItems, BothOrNone, Checked, CheckedJoin, ColumnDecl, ColumnRef, ColumnType, EachWith, Expr, FromColumn, Grouped, IsAnalysable, IsChecked, IsCheckedJoin, IsKeyPair, IsOfKind, IsShape, IsTypedQuery, Item, Items, Join, Listed, NamePair, OrderKey, Plain, Query, Schema, Shape, SortKey, Star, TableDecl, TableRef, TableUse, unrefused_is_accepted, append-nil, column_is_of_kind, first_name, from_columns, from_types, is_grouped, is_join_pair, join_spec, join_tables, length-map, list_all, listed, map-append, means, meant_type, none_found, output_names, length-item_names, query_tree, selection, pair_of, place_in, place_of, refusal_of, same_plain-is, sort_key, source_types, star_name, table_columns, type_of, types_of, ungrouped_names, use_of, used_types, join_columns, pairs_fit, and_parts, shape_types, ArePicks, item_calls}
+use Rattle.plan_laws.proofs.Imports.{Bool, IfSome, List, None, Option, Some, [], ap, arith, bytes_eq, cond, false, filter, flat_map, length, map, not, refl, slice_index_or, subst, suc, true, ℕ, ◌+◌, ◌<◌, ◌==◌, ◌∷◌, ◌≡◌, All, All-cons, All-head, All-nil, All-tail, AreColumnsFrom, AreKeyPairs, BothOrNone, Checked, CheckedJoin, ColumnDecl, ColumnRef, ColumnType, EachWith, Expr, FromColumn, IsAnalysable, IsChecked, IsCheckedJoin, IsKeyPair, IsOfKind, IsTypedQuery, Item, Join, NamePair, OrderKey, Query, Schema, SortKey, TableDecl, TableRef, TableUse, unrefused_is_accepted, append-nil, column_is_of_kind, from_columns, from_types, is_join_pair, join_spec, join_tables, length-map, list_all, map-append, means, meant_type, none_found, output_names, length-item_names, query_tree, selection, pair_of, place_of, refusal_of, same_plain-is, sort_key, source_types, table_columns, type_of, types_of, use_of, used_types, join_columns, pairs_fit, and_parts, shape_types, ArePicks, item_calls}
 use Rattle.chunk_data.specs.declared.typed_value.ColumnType.TheVariants as column
 use Rattle.query_model.specs.declared.query.ExprOf.TheVariants as expr
 use Rattle.query_model.specs.declared.query.Refusal.TheVariants as refuse
@@ -127,28 +127,15 @@ module _ (q : Query) (schemas : List Schema) (c : Checked) (none : refusal_of q 
 
   -- the shape makes as many columns as the query has names
   as-many-names : length names ≡ length made
-  as-many-names = go (is_grouped (query_tree q)) refl c.shape is.shape
-    where
-      no-star : (items : Items) (keys tested : List (List ℕ))
-          → option_map refuse.NotGrouped
-          (first_name (star_name (selection items) ++ keys ++ tested)) ≡ None
-          → length (output_names (selection items) columns) ≡ length (listed items)
-      no-star Star keys tested h = absurd cc
-      no-star (Listed items) keys tested h = search (arith, length-item_names, length-map)
-
-      go : (b : Bool) → is_grouped (query_tree q) ≡ b → (s : Shape) → IsShape q columns b s
-          → length names ≡ length (shape_types s (from_types q schemas))
-      go false e (Plain items) h = plain q.items h
-        where
-          plain : (items' : Items) → ArePlainItems (place_in columns) columns items' items
-              → length (output_names (selection items') columns)
-              ≡ length (map (λ e. type_of e (from_types q schemas)) items)
-          plain Star h = search (arith, columns-counted, length-map)
-          plain (Listed listed') h = search (arith, length-item_names, items-counted, length-map)
-      go false e (Grouped g) h = absurd h
-      go true e (Plain items) h = absurd h
-      go true e (Grouped g) h =
-          grind (arith, no-star, ungrouped_names, unrefused_is_accepted, picks-counted, length-map)
+  as-many-names = search (
+    arith,
+    length-item_names,
+    length-map,
+    columns-counted,
+    items-counted,
+    unrefused_is_accepted,
+    picks-counted,
+  )
 
   keys-within : (keys : List OrderKey) → All (λ key. is_no_name key ≡ false) keys
       → All Within (map (sort_key names) keys)

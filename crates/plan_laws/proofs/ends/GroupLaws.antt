@@ -17,7 +17,7 @@ partial-gives g files takes gives n p ins outs k =
     gives-held (λ rows. IsPermutation whole rows) p outs (in_stream p ins 0).done
     (whole, IsPermutation-refl whole) (λ e. (m.rows.gathering e).nothing_made)
     (λ e. let all = all-worked h m (λ i. e) 0 in (
-      all.0,
+      all.0 (omega arith),
       grind arith,
     ))
     (λ f. let end = m.over 0 f in (end.nothing_waits, end.all_made, end.noted))) (λ t e. e)) k
@@ -41,7 +41,7 @@ merged-gives g files takes gives n p ins outs k =
     let all = all-worked h m (λ i. e) in
     let worked : first_rows 32 m.worked ≡ rows_together lists =
     (λ j. first_rows 32 (λ i. (all i).1 j)) ∙ sym rows in (
-      all-done (in_stream p ins) (λ i. (all i).0) n 0 takes,
+      all-done (in_stream p ins) n 0 takes (λ i le lt. (all i).0 (omega (arith, lt))),
       grind arith,
     ))
     (λ f. let end = m.over 0 f in (end.nothing_waits, end.all_made, end.noted))) (λ t e. e)) k

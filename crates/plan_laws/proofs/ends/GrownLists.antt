@@ -1,48 +1,40 @@
 -- A graph of lawful boxes grows by its lists of parts alone, each by the sources of its parts.
-use Rattle.std.proofs.lemmas.Grind.{common_steps}
-use Rattle.plan_laws.proofs.Imports.{Bool, List, None, Option, Some, [], ap, ap₂, arith, cond, contract_of, count_by, count_by-none, count_by-once, false, false_from_ne_true, flat_map, get_or, grew-list, inl, inr, is_some, length, list_source, map, part_source, refl, subst, suc, sum_by, sym, true, ℕ, ◌++◌, ◌+◌, ◌<◌, ◌==◌, ◌∙◌, ◌∷◌, ◌≡◌, ◌⊎◌, All, All-from_recursion, AllByRecursion, BoxPicture, Contains, Contains-append_right, DraftNode, Files, GrowthForm, PartSpec, Spec, Wire, both_ways, box_at, cases_lt, get_or_default, get_or_past, input_count, no_wire, output_count, part_spec, paths_in, sum_by-append, sum_by-cons, unboxed, wire_at, grows-lawfully, AreAllBorn, Birth, HasForm, IsBirth, all_places, births_of, born_wires, form_at, growth_list, growths_of, kept_growths, new_wires, ArePortsOf, IsListGrowth, MayGrow, SpecForm, list_growth, listed_edges, listed_part, listed_parts, grown_inputs, is_me, Edge, Reserve, eqb-true, All-contains_itself, All-filter, filter_passes, length-map, nil_from_length, HasGrownByLists, HasListed, IsListedNode, IsUngrown, reading_in, GrowsLawfully}
+use Rattle.plan_laws.proofs.Imports.{All, All-contains_itself, All-filter, AllByRecursion, AreAllBorn, ArePortsOf, Birth, Bool, BoxPicture, Contains, Contains-append_right, DraftNode, Edge, Files, GrowsLawfully, GrowthForm, HasForm, HasGrownByLists, HasListed, IsBirth, IsPlacedGraph, IsListGrowth, IsListedNode, IsUngrown, List, MayGrow, NodeList, None, Option, PartSpec, Reserve, Some, Spec, SpecForm, Wire, [], all_places, ap, arith, births_of, born_wires, box_at, cond, count_by, count_by-append, count_by-cons, edges-count, eqb-true, every-weaker, false, filter_passes, flat_map, form_at, get_or, get_or-map, get_or-range_with_len, get_or_default, get_or_past, grew-list, grown_inputs, grown_nodes, grown_places, grows-lawfully, growth_list, growths_of, inl, input_count, inr, is_me, is_some, kept_growths, leb, length, length-append, length-map, list_growth, list_source, listed_edge, listed_edges, listed_part, listed_parts, map, nat_lt, nat_tests, new_wire, new_wires, new_wires_from, no_draft, no_wire, output_count, part_source, part_spec, parts-count, paths_in, range_with_len, reading_in, refl, subst, suc, sum_by, sum_by-cons, sym, true, unboxed, wire_at, with_nodes, ℕ, ◌&&◌, ◌++◌, ◌+◌, ◌<◌, ◌==◌, ◌∙◌, ◌∷◌, ◌≡◌, ◌≤◌, ◌⊎◌}
+use Rattle.plan_laws.proofs.ends.GrownNodes.{at-recursion, contains-flat, ends, first-place, grower-first, grown-graph-is-that-of-one-list, loaded-within, new-place, places-count, ports-at-place}
 
 -- ---- the wires of a list's growth
 
--- from the outputs of these nodes to the inputs of node n, the first of them input i
-abbrev listed_wires : ℕ → ℕ → List ℕ → List Wire
-listed_wires n i [] = []
-listed_wires n i (q ∷ qs) = record { from = q; out = 0; to = n; input = i }
-    ∷ listed_wires n (i + 1) qs
+ins-listed : (n : ℕ) (all : List ℕ) (i : ℕ) (paths : List (List ℕ)) (m : ℕ) (t : Bool)
+    → (n == m) ≡ t
+    → input_count (new_wires n all (listed_edges i paths)) m ≡ cond t (length paths) 0
+ins-listed n all i (path ∷ paths) m t e = grind (
+  arith,
+  count_by-cons (λ (w : Wire). w.to == m) (new_wire n all (listed_edge i))
+      (new_wires n all (listed_edges (i + 1) paths)),
+  ins-listed n all (i + 1) paths m t,
+)
+ins-listed n all i paths m t e = grind arith
 
-new-listed : (n : ℕ) (all : List ℕ) (i : ℕ) (qs : List ℕ) (paths : List (List ℕ))
-    → length qs ≡ length paths → ((k : ℕ) → k < length qs → get_or all (i + k) 0 ≡ get_or qs k 0)
-    → new_wires n all (listed_edges i paths) ≡ listed_wires n i qs
-new-listed n all i [] [] e h = refl
-new-listed n all i (q ∷ qs) (path ∷ paths) e h =
-    let here = h 0 in
-    let rest = new-listed n all (i + 1) qs paths (omega (arith, e)) (λ k lt.
-    let next = h (suc k) in grind arith) in grind arith
-new-listed n all i qs paths e h = grind arith
+-- each of the parts has an output
+outs-listed : (n first count i : ℕ) (paths : List (List ℕ)) (m : ℕ) → i + length paths ≡ count
+    → output_count (new_wires n (range_with_len first count) (listed_edges i paths)) m
+    ≡ cond (leb (first + i) m && nat_lt m (first + count)) 1 0
+outs-listed n first count i [] m e = grind (arith, nat_tests)
+outs-listed n first count i (path ∷ paths) m e = grind (
+  arith,
+  nat_tests,
+  get_or-range_with_len first count i 0,
+  count_by-cons (λ (w : Wire). w.from == m)
+      (new_wire n (range_with_len first count) (listed_edge i))
+      (new_wires n (range_with_len first count) (listed_edges (i + 1) paths)),
+  outs-listed n first count (i + 1) paths m,
+)
 
-outs-listed : (n i : ℕ) (qs : List ℕ) (m : ℕ)
-    → output_count (listed_wires n i qs) m ≡ count_by (λ q. q == m) qs
-outs-listed n i [] m = refl
-outs-listed n i (q ∷ qs) m = search (arith, sum_by-cons, outs-listed n (i + 1) qs m)
-
-one-more : (b : Bool) (k : ℕ) → cond b 1 0 + cond b k 0 ≡ cond b (suc k) 0
-one-more b k = grind arith
-
-none-at : (b : Bool) → 0 ≡ (let n : ℕ = cond b 0 0 in n)
-none-at b = grind arith
-
-ins-listed : (n i : ℕ) (qs : List ℕ) (m : ℕ)
-    → input_count (listed_wires n i qs) m ≡ cond (n == m) (length qs) 0
-ins-listed n i [] m = none-at (n == m)
-ins-listed n i (q ∷ qs) m = search (arith, sum_by-cons, one-more, ins-listed n (i + 1) qs m)
-
-wire-listed : (n i : ℕ) (qs : List ℕ) (k : ℕ) → k < length qs
-    → Contains (listed_wires n i qs)
-    (record { from = get_or qs k 0; out = 0; to = n; input = i + k })
-wire-listed n i (q ∷ qs) (suc k) lt =
-    let more = wire-listed n (i + 1) qs k (omega (arith, lt)) in
-    (suc more.0, omega (arith, more.1), grind (arith, more.2))
-wire-listed n i qs k lt = grind arith
+edge-listed : (i : ℕ) (paths : List (List ℕ)) (k : ℕ) (e : Edge) → k < length paths
+    → get_or (listed_edges i paths) k e ≡ listed_edge (i + k)
+edge-listed i (path ∷ paths) (suc k) e lt =
+    grind (arith, edge-listed (i + 1) paths k e (omega (arith, lt)))
+edge-listed i paths k e lt = grind arith
 
 -- ---- births of lists
 
@@ -51,52 +43,49 @@ record IsListBirth (b : Birth) : Type 0 where
   pub list : PartSpec
   pub paths : List (List ℕ)
   pub is : b.growth ≡ list_growth list paths
-  pub as_many : length b.places ≡ length paths
+  pub as_many : length b.places ≡ length b.growth.specs
 
-born-listed : (b : Birth) → IsListBirth b → born_wires b ≡ listed_wires b.expander 0 b.places
-born-listed b h = grind (arith, new-listed)
+-- node k has an input for each part of its growths
+ins-births : (bs : List Birth) → AllByRecursion IsListBirth bs → (first k : ℕ)
+    → input_count (new_wires_from first bs) k
+    ≡ sum_by (λ (h : GrowthForm). length h.specs) (growths_of k bs)
+ins-births [] each first k = refl
+ins-births (b ∷ bs) each first k =
+    let h = each.0 in
+    let count : ℕ = length b.growth.specs in
+    let new : List ℕ = range_with_len first count in
+    grind (
+      arith,
+      h.is,
+      parts-count h.list 0 h.paths,
+      ins-listed b.expander new 0 h.paths k (b.expander == k) refl,
+      count_by-append (λ (w : Wire). w.to == k) (new_wires b.expander new b.growth.edges)
+          (new_wires_from (first + count) bs),
+      sum_by-cons (λ (h : GrowthForm). length h.specs) b.growth (growths_of k bs),
+      ins-births bs each.1 (first + count) k,
+    )
 
-outs-born : (births : List Birth) → AllByRecursion IsListBirth births → (m : ℕ)
-    → output_count (flat_map born_wires births) m ≡ count_by (λ q. q == m) (all_places births)
-outs-born [] h m = refl
-outs-born (b ∷ births) h m = grind (
-  arith,
-  sum_by-append,
-  born-listed b h.0,
-  outs-listed b.expander 0 b.places m,
-  outs-born births h.1 m,
-)
-
--- how many new nodes the growths of node m have
-abbrev fed_by : List Birth → ℕ → ℕ
-fed_by births m = sum_by (λ (b : Birth). length b.places) (births_of m births)
-
-ins-born : (births : List Birth) → AllByRecursion IsListBirth births → (m : ℕ)
-    → input_count (flat_map born_wires births) m ≡ fed_by births m
-ins-born [] h m = refl
-ins-born (b ∷ births) h m = go (b.expander == m) refl (ins-born births h.1 m)
-  where
-    here : input_count (born_wires b) m ≡ cond (b.expander == m) (length b.places) 0
-    here = ap (λ w. input_count w m) (born-listed b h.0) ∙ ins-listed b.expander 0 b.places m
-
-    split : input_count (flat_map born_wires (b ∷ births)) m
-        ≡ input_count (born_wires b) m + input_count (flat_map born_wires births) m
-    split = grind (arith, sum_by-append)
-
-    go : (t : Bool) → (b.expander == m) ≡ t
-        → input_count (flat_map born_wires births) m ≡ fed_by births m
-        → input_count (flat_map born_wires (b ∷ births)) m
-        ≡ sum_by (λ (b : Birth). length b.places) (cond t (b ∷ births_of m births)
-        (births_of m births))
-    go true e rest = grind (arith, common_steps, split, here, sum_by-cons)
-    go false e rest = grind (arith, split, here)
-
--- what one of the elements gives is in all that they give
-contains-flat : {A X : Type 0} (f : A → List X) (xs : List A) (j : ℕ) (a : A) → j < length xs
-    → get_or xs j a ≡ a → (x : X) → Contains (f a) x → Contains (flat_map f xs) x
-contains-flat f (c ∷ xs) (suc j) a lt is x h =
-    grind (arith, Contains-append_right, is, contains-flat f xs j a (omega (arith, lt)) is x h)
-contains-flat f xs j a lt is x h = grind (arith, common_steps)
+-- and each new node has an output
+outs-births : (bs : List Birth) → AllByRecursion IsListBirth bs → (first k : ℕ)
+    → output_count (new_wires_from first bs) k ≡ cond (leb first k
+    && nat_lt k (first + length (all_places bs))) 1 0
+outs-births [] each first k = grind (arith, nat_tests)
+outs-births (b ∷ bs) each first k =
+    let h = each.0 in
+    let count : ℕ = length b.growth.specs in
+    let new : List ℕ = range_with_len first count in
+    grind (
+      arith,
+      nat_tests,
+      h.is,
+      parts-count h.list 0 h.paths,
+      outs-listed b.expander first count 0 h.paths k,
+      count_by-append (λ (w : Wire). w.from == k) (new_wires b.expander new b.growth.edges)
+          (new_wires_from (first + count) bs),
+      length-append b.places (all_places bs),
+      h.as_many,
+      outs-births bs each.1 (first + count) k,
+    )
 
 -- the first growth of a node
 first-birth : (n : ℕ) (births : List Birth) (b : Birth) (rest : List Birth)
@@ -109,29 +98,6 @@ first-birth n births b rest e =
     )
 
 -- ---- lists by index
-
-pub at-recursion : {X : Type 0} (P : X → Type 0) (xs : List X) → AllByRecursion P xs
-    → (j : ℕ) (x : X) → j < length xs → get_or xs j x ≡ x → P x
-at-recursion P xs h j x lt is = subst P is (All-from_recursion P xs h j x lt)
-
-map-none : (births : List Birth) → map (λ (b : Birth). b.growth) births ≡ [] → births ≡ []
-map-none births e = nil_from_length births (sym (length-map births _) ∙ ap (λ l. length l) e)
-
--- the one growth of a node
-record OneBirth (births : List Birth) (g : GrowthForm) : Type 0 where
-  pub birth : Birth
-  pub are : births ≡ birth ∷ []
-  pub grows : birth.growth ≡ g
-
-map-one : (births : List Birth) (g : GrowthForm) → map (λ (b : Birth). b.growth) births ≡ g ∷ []
-    → OneBirth births g
-map-one (b ∷ []) g e = record { birth = b; are = refl; grows = cc }
-map-one births g e = grind arith
-
-parts-length : (list : PartSpec) (i : ℕ) (paths : List (List ℕ))
-    → length (listed_parts list i paths) ≡ length paths
-parts-length list i [] = refl
-parts-length list i (path ∷ paths) = ap suc (parts-length list (i + 1) paths)
 
 grown-length : (i : ℕ) (paths : List (List ℕ))
     → count_by (λ (e : Edge). is_me e.to.who) (listed_edges i paths) ≡ length paths
@@ -151,28 +117,33 @@ form-csv o f part e h = grind arith
 
 may-none : (s : Spec) (files : Option Files) (o : Option GrowthForm) → IsUngrown s
     → MayGrow (Some s) files o → o ≡ None
-may-none s files None u m = refl
-may-none s files (Some g) u m =
-    let grew = grew-list (Some s) files g m in
-    absurd (subst (λ o. (contract_of o).traits.ungrown) grew.is u)
-
--- a loaded box is one of the list
-pub born-within : (boxes : List BoxPicture) (n : ℕ) → is_some (box_at boxes n).spec ≡ true
-    → n < length boxes
-unfolding box_at
-born-within boxes n born = grind (arith, cases_lt, both_ways, get_or_past)
+may-none s files o u m = grind (arith, grew-list)
 
 -- ---- a graph that grew
 
-module _ (files : Files) (nodes : List DraftNode) (wires : List Wire) (reserves : List Reserve)
+module _ (files : Files) (nodes : List DraftNode) (reserves : List Reserve)
     (before after : List BoxPicture) (births : List Birth)
-    (g : GrowsLawfully files nodes wires reserves before after births)
+    (g : GrowsLawfully files nodes reserves before after births)
     (all : AreAllBorn before after births) where
-  abbrev new : List Wire
-  new = flat_map born_wires births
+  abbrev wires : List Wire
+  wires = (with_nodes nodes no_draft).wires
 
   abbrev all_wires : List Wire
-  all_wires = wires ++ new
+  all_wires = wires ++ flat_map born_wires births
+
+  -- the list of nodes whose graph it is, and where they stand
+  abbrev list : NodeList
+  list = grown_nodes nodes births
+
+  abbrev places : List ℕ
+  places = grown_places nodes births
+
+  graph : IsPlacedGraph list places all_wires after
+  graph = grown-graph-is-that-of-one-list files nodes reserves before after births g
+
+  ports : (side : Bool) (k : ℕ) → k < length places
+      → ends side all_wires (get_or places k 0) ≡ ends side list.wires k
+  ports = ports-at-place files nodes reserves before after births g
 
   -- a box may grow by its spec as it did
   may-grow : (n : ℕ) (s : Spec) → n < length after → (box_at after n).spec ≡ Some s
@@ -184,64 +155,75 @@ module _ (files : Files) (nodes : List DraftNode) (wires : List Wire) (reserves 
 
   -- a box of another kind has let nothing grow
   no-growth : (n : ℕ) (s : Spec) → n < length after → (box_at after n).spec ≡ Some s
-      → IsUngrown s → births_of n births ≡ []
-  no-growth n s lt is u =
-      let none = may-none s (box_at after n).files (box_at after n).growth u
-      (may-grow n s lt is) in
-      map-none (births_of n births) (growths n lt
-      ∙ ap₂ (λ o q. cond (is_some o) (growth_list q) []) is none)
-
-  birth-at : (j : ℕ) (b : Birth) → j < length births → get_or births j b ≡ b
-      → IsBirth reserves before after b
-  birth-at j b lt is = at-recursion (IsBirth reserves before after) births g.are.each j b lt is
+      → IsUngrown s → growths_of n births ≡ []
+  no-growth n s lt is u = grind (arith, may-none, may-grow, growths)
 
   -- each of them is a list's
-  list-births : AllByRecursion IsListBirth births
-  list-births = all-map births g.are.each
+  list-birth : (b : Birth) → IsBirth reserves before after b → IsListBirth b
+  list-birth b w = go (box_at after b.expander).spec
+      (w.may_grow (g.lawful b.expander (loaded-within after b.expander w.grown)))
     where
-      one : (b : Birth) → IsBirth reserves before after b → (o : Option Spec)
-          → MayGrow o (box_at after b.expander).files (Some b.growth) → IsListBirth b
-      one b w o m = grind (arith, parts-length, grew-list o _ b.growth m)
+      go : (o : Option Spec) → MayGrow o (box_at after b.expander).files (Some b.growth)
+          → IsListBirth b
+      go o m = grind (arith, grew-list o _ b.growth m)
 
-      all-map : (bs : List Birth) → AllByRecursion (IsBirth reserves before after) bs
-          → AllByRecursion IsListBirth bs
-      all-map [] h = tt
-      all-map (b ∷ bs) h = grind (arith, born-within, one, all-map bs h.1)
+  -- each node of the list has an input for each part of its growths, and each new one an output
+  counts : (n : ℕ) → (input_count list.wires n ≡ input_count wires n
+      + sum_by (λ (h : GrowthForm). length h.specs) (growths_of n births))
+      × (output_count list.wires n ≡ output_count wires n + cond (leb (length nodes) n
+      && nat_lt n (length nodes + length (all_places births))) 1 0)
+  counts n = grind (arith, count_by-append, ins-births, outs-births, every-weaker, list-birth)
 
-  -- what the first nodes had, they have
-  outputs-stay : (n : ℕ) → n < length nodes → output_count all_wires n ≡ output_count wires n
-  outputs-stay n lt =
-      grind (arith, sum_by-append, outs-born births list-births n, none-placed births g.are.each)
-    where
-      none-placed : (bs : List Birth) → AllByRecursion (IsBirth reserves before after) bs
-          → count_by (λ q. q == n) (all_places bs) ≡ 0
-      none-placed [] h = refl
-      none-placed (b ∷ bs) h =
-          omega (
-            arith,
-            sum_by-append (λ (q : ℕ). cond (q == n) 1 0) b.places (all_places bs),
-            count_by-none 0 (λ q. q == n) b.places (λ k within. false_from_ne_true _ (λ is.
-                let behind = g.behind b.expander (get_or b.places k 0) (h.0.reserved k within) in
-                absurd (omega (arith, behind.0, eqb-true _ _ is, lt)))),
-            none-placed bs h.1,
-          )
+  -- the first nodes have the outputs that they had, and the inputs that their growths gave them
+  first-ports : (n : ℕ) → n < length nodes
+      → (input_count all_wires n ≡ input_count wires n
+      + sum_by (λ (h : GrowthForm). length h.specs) (growths_of n births))
+      × (output_count all_wires n ≡ output_count wires n)
+  first-ports n lt =
+      let here = first-place files nodes reserves before after births g n lt in
+      let within : n < length places =
+      rw (graph.count, length-append, length-map) (omega (arith, lt)) in
+      let same : (side : Bool) → ends side all_wires n ≡ ends side list.wires n =
+      (λ side. rw here at (ports side n within)) in
+      grind (arith, nat_tests, same true, same false, counts n)
 
-  fed : (n : ℕ) → input_count all_wires n ≡ input_count wires n + fed_by births n
-  fed n = grind (arith, sum_by-append, ins-born, list-births)
+  unfed : (n : ℕ) → n < length nodes → growths_of n births ≡ []
+      → input_count all_wires n ≡ input_count wires n
+  unfed n lt none = grind (arith, first-ports n lt)
 
-  unfed : (n : ℕ) → births_of n births ≡ [] → input_count all_wires n ≡ input_count wires n
-  unfed n none = grind (arith, fed n)
+  -- the first wires don't join new nodes
+  none-past : (n : ℕ) → length nodes ≤ n → (input_count wires n ≡ 0) × (output_count wires n ≡ 0)
+  none-past n le = (
+    g.graph.inputs n ∙ get_or_past (map (λ (z : DraftNode). z.takes) nodes) n 0 (rw length-map le),
+    g.graph.outputs n
+        ∙ get_or_past (map (λ (z : DraftNode). z.gives) nodes) n 0 (rw length-map le),
+  )
+
+  -- a new node lets nothing grow
+  none-fed : (n : ℕ) → length nodes ≤ n → (bs : List Birth)
+      → AllByRecursion (IsBirth reserves before after) bs
+      → sum_by (λ (h : GrowthForm). length h.specs) (growths_of n bs) ≡ 0
+  none-fed n le [] each = refl
+  none-fed n le (b ∷ bs) each = grind (
+    arith,
+    sum_by-cons,
+    eqb-true b.expander n,
+    grower-first files nodes reserves before after births g b each.0,
+    none-fed n le bs each.1,
+  )
 
   -- the growth of a list
   record ListCase (list : PartSpec) (n : ℕ) : Type 0 where
     pub birth : Birth
-    pub are : births_of n births ≡ birth ∷ []
+    pub at : Contains births birth
+    pub own : birth.expander ≡ n
+    pub are : growths_of n births ≡ birth.growth ∷ []
     pub grows : (box_at after n).growth ≡ Some birth.growth
     pub may : IsListGrowth list (box_at after n).files birth.growth
 
   list-case : (n : ℕ) (list : PartSpec) → n < length after
       → (box_at after n).spec ≡ Some (list_source list)
-      → ((births_of n births ≡ []) × ((box_at after n).growth ≡ None)) ⊎ ListCase list n
+      → ((growths_of n births ≡ []) × ((box_at after n).growth ≡ None)) ⊎ ListCase list n
   list-case n list lt is =
       go (box_at after n).growth refl
       (growths n lt ∙ ap (λ o. cond (is_some o) (growth_list (box_at after n).growth) []) is)
@@ -250,62 +232,85 @@ module _ (files : Files) (nodes : List DraftNode) (wires : List Wire) (reserves 
       go : (q : Option GrowthForm) → (box_at after n).growth ≡ q
           → growths_of n births ≡ growth_list q
           → MayGrow (Some (list_source list)) (box_at after n).files q
-          → ((births_of n births ≡ []) × ((box_at after n).growth ≡ None)) ⊎ ListCase list n
-      go None e gs m = inl (map-none (births_of n births) gs, e)
-      go (Some h) e gs m = grind (arith, map-one (births_of n births) h gs)
+          → ((growths_of n births ≡ []) × ((box_at after n).growth ≡ None)) ⊎ ListCase list n
+      go None e gs m = inl (gs, e)
+      go (Some h) e gs m = inr (of (births_of n births) refl gs)
+        where
+          of : (bs : List Birth) → births_of n births ≡ bs
+              → map (λ (b : Birth). b.growth) bs ≡ h ∷ [] → ListCase list n
+          of (b ∷ bs) is one =
+              let f = first-birth n births b bs is in
+              let grows : b.growth ≡ h = grind arith in
+              record {
+                birth = b;
+                at = f.0;
+                own = f.1;
+                are = gs ∙ ap (λ q. q ∷ []) (sym grows);
+                grows = e ∙ ap (λ q. Some q) (sym grows);
+                may = rw grows m;
+              }
+          of [] is one = grind arith
 
-  fed-length : (n : ℕ) (list : PartSpec) (c : ListCase list n) → input_count wires n ≡ 0
-      → IsBirth reserves before after c.birth
-      → input_count all_wires n ≡ length (paths_in (Some c.may.text))
-  fed-length n list c none w =
-      grind (arith, sum_by-cons, parts-length list 0 (paths_in (Some c.may.text)), fed n)
+  fed-length : (n : ℕ) (list : PartSpec) (c : ListCase list n) → n < length nodes
+      → input_count wires n ≡ 0 → input_count all_wires n ≡ length (paths_in (Some c.may.text))
+  fed-length n list c lt none =
+      grind (arith, sum_by-cons, first-ports n lt, parts-count list 0 (paths_in (Some c.may.text)))
 
   -- the node of a part
-  listed-node : (n : ℕ) (list : PartSpec) (c : ListCase list n)
-      (f : Contains births c.birth × (c.birth.expander ≡ n)) → IsBirth reserves before after c.birth
+  listed-node : (n : ℕ) (spec : PartSpec) (c : ListCase spec n) → n < length nodes
       → (k : ℕ) (path : List ℕ) → k < length (paths_in (Some c.may.text))
       → get_or (paths_in (Some c.may.text)) k path ≡ path
-      → IsListedNode list all_wires after n k path
+      → IsListedNode spec all_wires after n k path
   unfolding wire_at
-  listed-node n list c f w k path lt is =
+  listed-node n spec c low k path lt is =
       let b : Birth = c.birth in
-      let q : ℕ = get_or b.places k 0 in
+      let w = at-recursion (IsBirth reserves before after) births g.are.each c.at.0 b c.at.1 c.at.2
+      in
       let paths : List (List ℕ) = paths_in (Some c.may.text) in
       let many = w.as_many ∙ ap (λ (h : GrowthForm). length h.specs) c.may.is
-      ∙ parts-length list 0 paths in
+      ∙ parts-count spec 0 paths in
       let within : k < length b.places = omega (arith, lt, many) in
-      let behind = g.behind b.expander q (w.reserved k within) in
-      let part : PartSpec = part_spec (reading_in list) (suc k) path in
+      let q : ℕ = get_or b.places k 0 in
+      let part : PartSpec = part_spec (reading_in spec) (suc k) path in
       let numbered : 0 + k + 1 ≡ suc k = omega arith in
       let form : form_at b.growth.specs k ≡ unboxed (part_source part) =
-      grind (arith, part-form list 0 paths k path lt is) in
+      grind (arith, part-form spec 0 paths k path lt is) in
       let loaded = form-csv (box_at after q).spec (form_at b.growth.specs k) part form
       (w.born k within) in
-      let past = behind.0 in
-      let none_in = g.inputs_within q past in
-      let fed_zero = unfed q (no-growth q (part_source part) behind.1 loaded tt) in
-      let listed = at-recursion IsListBirth births list-births f.0.0 b f.0.1 f.0.2 in
-      let there = contains-flat (λ (d : Birth). d.places) births f.0.0 b f.0.1 f.0.2 q
+      let there = contains-flat (λ (d : Birth). d.places) births c.at.0 b c.at.1 c.at.2 q
       (k, within, get_or_default b.places k q 0 within) in
+      let number : ℕ = length nodes + there.0 in
+      let place : get_or places number 0 ≡ q =
+      new-place files nodes reserves before after births g there.0
+      ∙ get_or_default (all_places births) there.0 0 q there.1 ∙ there.2 in
+      let all_count = places-count files nodes reserves before after births g in
+      let less = there.1 in
+      let in_list : number < length places = omega (arith, less, all_count) in
+      let edges : List Edge = b.growth.edges in
+      let some : k < length edges = grind (arith, c.may.is, edges-count 0 paths) in
+      let edge : get_or edges k (listed_edge k) ≡ listed_edge k =
+      grind (arith, c.may.is, edge-listed 0 paths k) in
       let wire : Wire = record { from = q; out = 0; to = n; input = k } in
-      let made : Contains (listed_wires b.expander 0 b.places) wire =
-      grind (arith, f.1, wire-listed b.expander 0 b.places k within) in
-      let found = Contains-append_right wires new wire
-      (contains-flat born_wires births f.0.0 b f.0.1 f.0.2 wire
-      (subst (λ l. Contains l wire) (sym (born-listed b listed)) made)) in
+      let made : new_wire b.expander b.places (listed_edge k) ≡ wire =
+      ap (λ m. record { from = q; out = 0; to = m; input = k }) c.own in
+      let found = Contains-append_right wires (flat_map born_wires births) wire
+      (contains-flat born_wires births c.at.0 b c.at.1 c.at.2 wire (
+        k,
+        rw length-map some,
+        get_or-map (new_wire b.expander b.places) edges k (listed_edge k) wire some
+            ∙ ap (new_wire b.expander b.places) edge ∙ made,
+      )) in
+      let new_one : length nodes ≤ number = omega arith in
+      let none = none-past number new_one in
+      let count = counts number in
       record {
         node = q;
-        in_range = behind.1;
+        in_range = loaded-within after q (ap is_some loaded);
         loaded = loaded;
-        inputs = fed_zero ∙ none_in;
-        outputs = omega (
-          arith,
-          sum_by-append (λ (v : Wire). cond (v.from == q) 1 0) wires new,
-          outs-born births list-births q,
-          count_by-once (all_places births) q g.are.once there.0 there.1
-              (get_or_default (all_places births) there.0 0 q there.1 ∙ there.2),
-          g.outputs_within q past,
-        );
+        inputs = rw place at (ports true number in_list)
+            ∙ grind (arith, count, none-fed number new_one births g.are.each, none);
+        outputs = rw place at (ports false number in_list)
+            ∙ grind (arith, nat_tests, count, none, less);
         edge = found.0;
         edge_in_range = found.1;
         wire = get_or_default all_wires found.0 no_wire wire found.1 ∙ found.2;
@@ -320,43 +325,35 @@ module _ (files : Files) (nodes : List DraftNode) (wires : List Wire) (reserves 
       (output_count all_wires n)
   list-ports n list lt is =
       let ports = g.lists_unfed n list lt is in
-      (go (list-case n list (in-after n lt) is), outputs-stay n lt ∙ ports.1)
+      (go (list-case n list (in-after n lt) is), (first-ports n lt).1 ∙ ports.1)
     where
-      go : ((births_of n births ≡ []) × ((box_at after n).growth ≡ None)) ⊎ ListCase list n
+      go : ((growths_of n births ≡ []) × ((box_at after n).growth ≡ None)) ⊎ ListCase list n
           → input_count all_wires n ≡ grown_inputs (box_at after n).growth
-      go (inl none) = grind (arith, unfed n none.0, g.lists_unfed n list lt is)
-      go (inr c) =
-          let f = first-birth n births c.birth [] c.are in
-          grind (
-            arith,
-            fed-length n list c (g.lists_unfed n list lt is).0
-                (birth-at f.0.0 c.birth f.0.1 f.0.2),
-            grown-length 0 (paths_in (Some c.may.text)),
-            c.may.is,
-            c.grows,
-          )
+      go (inl none) = grind (arith, unfed n lt none.0, g.lists_unfed n list lt is)
+      go (inr c) = grind (
+        arith,
+        fed-length n list c lt (g.lists_unfed n list lt is).0,
+        grown-length 0 (paths_in (Some c.may.text)),
+      )
 
   -- A graph of lawful boxes has grown by its lists, each by the sources of its parts.
-  pub grown-lists : HasGrownByLists files nodes wires new after
+  pub grown-lists : HasGrownByLists files nodes wires (flat_map born_wires births) after
   grown-lists = record {
     inputs = grind (arith, unfed, no-growth);
-    outputs = outputs-stay;
+    outputs = λ n lt. (first-ports n lt).1;
     list_ports = list-ports;
     lists = λ n list lt is. go n list lt is (list-case n list (in-after n lt) is);
   }
     where
       go : (n : ℕ) (list : PartSpec) → n < length nodes
           → (box_at after n).spec ≡ Some (list_source list)
-          → ((births_of n births ≡ []) × ((box_at after n).growth ≡ None)) ⊎ ListCase list n
+          → ((growths_of n births ≡ []) × ((box_at after n).growth ≡ None)) ⊎ ListCase list n
           → (input_count all_wires n ≡ 0) ⊎ HasListed list files all_wires after n
-      go n list lt is (inl none) = inl (unfed n none.0 ∙ (g.lists_unfed n list lt is).0)
-      go n list lt is (inr c) =
-          let f = first-birth n births c.birth [] c.are in
-          let w = birth-at f.0.0 c.birth f.0.1 f.0.2 in
-          grind (
-            arith,
-            listed-node n list c f w,
-            fed-length n list c (g.lists_unfed n list lt is).0 w,
-            g.told n (list_source list) (in-after n lt) is tt,
-            c.may,
-          )
+      go n list lt is (inl none) = inl (unfed n lt none.0 ∙ (g.lists_unfed n list lt is).0)
+      go n list lt is (inr c) = grind (
+        arith,
+        listed-node n list c lt,
+        fed-length n list c lt (g.lists_unfed n list lt is).0,
+        g.told n (list_source list) (in-after n lt) is tt,
+        c.may,
+      )

@@ -1,6 +1,6 @@
 -- What a join keeps is what it gives.
 use Rattle.proc_api.specs.Names.{IsJoinWork, IsWorkOf}
-use Rattle.plan_laws.proofs.Imports.{Bool, KeepsWorked, List, [], ap, append_assoc, arith, false, refl, subst, true, ◌++◌, ◌<◌, ◌∙◌, ◌≡◌, BoxPicture, GivesJoined, IsPermutation-append_left, IsPermutation-refl, IsReadUp, JoinSpec, Lists, Row, and_parts, append-nil, chunk_rows, joined_rows, joined_rows-append, kept_outputs, rows-append, unworked_at, KeepsContract, KindGives, in_stream, out_stream}
+use Rattle.plan_laws.proofs.Imports.{Bool, KeepsWorked, List, [], ap, append_assoc, arith, false, refl, subst, true, ◌++◌, ◌<◌, ◌∙◌, ◌≡◌, BoxPicture, GivesJoined, IsPermutation-append_left, IsPermutation-refl, IsReadUp, JoinSpec, Lists, Row, and_parts, append-nil, chunk_rows, joined_rows, joined_rows-append, rows-append, unworked_at, KeepsContract, KindGives, in_stream, out_stream, ℕ}
 use Rattle.query_model.specs.declared.processor_spec.Spec.TheVariants as spec
 use Rattle.plan_laws.proofs.ends.KindLaws.{all-worked-at, at-ports, kept-rows, one-output, stays-open}
 use Rattle.plan_laws.proofs.ends.SortLaws.{all-fit-at, front-none, read-up}
@@ -21,12 +21,9 @@ module _ (join : JoinSpec) (files : _) (p : BoxPicture) (ins outs : Lists)
   abbrev others : List Row
   others = chunk_rows (unworked_at p.work 0)
 
-  some : 0 < kept_outputs p
-  some = let e = k.outputs in omega (arith, e)
-
   -- both inputs are done where the output is
-  input-done : (i : _) → (out_stream p outs 0).done ≡ true → (in_stream p ins i).done ≡ true
-  input-done i done = search (arith, stays-open, some)
+  input-done : (i : ℕ) → i < 2 → (out_stream p outs 0).done ≡ true → (in_stream p ins i).done ≡ true
+  input-done i lt = stays-open k i 0 lt (omega arith) (λ x. x)
 
   -- before the end of the second input is noted nothing is pulled of the first
   none-pulled : p.work.ended ≡ false → chunk_rows (ins 0) ≡ []

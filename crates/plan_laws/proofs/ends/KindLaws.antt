@@ -1,23 +1,40 @@
 -- What a kind keeps is what it gives, a kind at a time.
-use Rattle.plan_laws.proofs.Imports.{Bool, KeepsWorked, List, Some, [], ap, append_assoc, arith, false, filter, get_or, inl, inr, length, map, refl, subst, suc, sym, true, worked-where-fit, zero, ℕ, ◌++◌, ◌+◌, ◌<◌, ◌∷◌, ◌≡◌, ◌≤◌, ◌⊎◌, All, All-head, All-nil, All-tail, AllByRecursion, AllFit, Any, BoxPicture, ColumnType, Cond, Expr, Files, FitFrom, FitsInput, Gives, GivesFront, GivesSource, GivesThrough, HasReadEnough, IsItem, IsPulled, IsTypedCond, Keeps, KeepsRows, Lists, MakesType, MakesTypes, NodePort, PartSpec, Row, Span, Spec, Table, WorkState, and_parts, append-nil, both_ways, cases_eq, cases_lt, chunk_rows, cond_both, false_from_ne_true, flat_map-append, get_or-map, holds, item_row, kept_output, kept_outputs, length-map, limited, no_table, not-true, not_from_false, ports_of, pulled_types, recursion_from_All, type_of, unworked_at, BoxGives, part_of, sources_of_files, chunk_types, in_stream, out_stream, KeepsContract, KindGives, filter-append, map-append, IsWorkOf, length-append, nil_from_length, Types}
+use Rattle.plan_laws.proofs.Imports.{Bool, KeepsWorked, List, Some, [], ap, append_assoc, arith, false, filter, get_or, inl, inr, length, map, refl, subst, suc, sym, true, worked-where-fit, zero, ℕ, ◌++◌, ◌+◌, ◌<◌, ◌∷◌, ◌≡◌, ◌≤◌, ◌⊎◌, All, All-head, All-nil, All-tail, AllByRecursion, AllFit, Any, BoxPicture, ColumnType, Cond, Expr, Files, FitFrom, FitsInput, Gives, GivesFront, GivesSource, GivesThrough, HasReadEnough, IsItem, IsPulled, IsTypedCond, Keeps, Lists, MakesType, MakesTypes, NodePort, PartSpec, Row, Span, Spec, Table, WorkState, and_parts, append-nil, both_ways, cases_eq, cases_lt, chunk_rows, cond_both, false_from_ne_true, flat_map-append, get_or-map, holds, item_row, kept_output, kept_outputs, length-map, limited, no_table, not-true, ports_of, pulled_types, recursion_from_All, type_of, unworked_at, BoxGives, part_of, sources_of_files, chunk_types, in_stream, out_stream, KeepsContract, KindGives, filter-append, map-append, IsWorkOf, length-append, nil_from_length, Types, AreAsKept, AreOpen, OwnState, NotesEnd, kept_inputs, kept_ports, and_from, HasFinished, or_cases}
 use Rattle.plan_laws.proofs.meaning.KindLaws.{limited-extends, Extends}
 use Rattle.plan_laws.proofs.meaning.Fronts.{no-rest}
 use Rattle.plan_laws.proofs.meaning.PlanTypes.{OneType, passes-type}
 use Rattle.std.proofs.lemmas.Grind.{common_steps}
 use Rattle.query_model.specs.declared.processor_spec.Spec.TheVariants as spec
 
--- a box that finished an output which nobody closed has closed no input, but for a limit that has
--- read enough
-open-or-enough : (p : BoxPicture) (ins outs : Lists) (i o : ℕ) → Keeps p ins outs
-    → o < kept_outputs p → (out_stream p outs o).done ≡ true
-    → ((in_stream p ins i).done ≡ true) ⊎ HasReadEnough p.spec ins
-open-or-enough p ins outs i o k lt done = grind (arith, both_ways, not-true, and_parts)
+module _ {s : Spec} {files : Files} {takes gives : ℕ} {p : BoxPicture} {ins outs : Lists}
+    (k : KeepsContract s files takes gives p ins outs) where
+  -- The last view, if there was one, had all ports, or each port of it is open and the kind notes
+  -- no end.
+  pub as-kept : AreAsKept p.notes.view takes gives ⊎ (AreOpen (kept_ports p.notes.view)
+      × ((own : OwnState) (i : ℕ) → NotesEnd (Some s) own i → ⊥))
+  as-kept = grind (arith, k.keeps.ports, k.still, k.ports, k.loaded)
 
--- the same of a kind that is no limit
-pub stays-open : (p : BoxPicture) (ins outs : Lists) (i o : ℕ) → Keeps p ins outs
-    → (HasReadEnough p.spec ins → ⊥) → o < kept_outputs p → (out_stream p outs o).done ≡ true
-    → (in_stream p ins i).done ≡ true
-stays-open p ins outs i o k unlimited lt done = search (arith, open-or-enough)
+  -- a box that finished an output has all ports
+  finished-ports : (o : ℕ) → (kept_output p o).fin_out ≡ true
+      → (kept_inputs p ≡ takes) × (kept_outputs p ≡ gives)
+  unfolding kept_inputs kept_outputs kept_output
+  finished-ports o fin = grind (arith, as-kept, both_ways)
+
+  -- a box that finished an output which nobody closed saw each input end and closed none, but for a
+  -- limit that has read enough
+  open-or-enough : (i o : ℕ) → i < takes → o < gives → (out_stream p outs o).done ≡ true
+      → ((in_stream p ins i).done ≡ true) ⊎ HasReadEnough (Some s) ins
+  open-or-enough i o lt within done =
+      grind (arith, both_ways, not-true, and_parts, and_from, finished-ports)
+
+  -- the same of a kind that is no limit
+  pub stays-open : (i o : ℕ) → i < takes → o < gives → (HasReadEnough (Some s) ins → ⊥)
+      → (out_stream p outs o).done ≡ true → (in_stream p ins i).done ≡ true
+  stays-open i o lt within unlimited done = search (arith, open-or-enough i o lt within done)
+
+  -- what is kept of a kind, where each chunk that was pulled fits
+  pub kept-rows : AllFit (Some s) ins → KeepsWorked s p ins outs
+  kept-rows fit = grind (arith, worked-where-fit)
 
 -- The rows that were pushed are the first of these where those that wait and others follow, none of
 -- which is left once it has itself finished its output.
@@ -99,12 +116,8 @@ among-pulled Q p ins n i (suc m) input k le lt within q = elim (cases_eq i input
 pub is-among : (Q : List ColumnType → Type 0) (p : BoxPicture) (ins : Lists) (n takes : ℕ)
     (types : List ColumnType) → ((i : ℕ) → takes ≤ i → ins i ≡ []) → IsPulled ins types → Q types
     → Any Q (pulled_types (map (λ (q : NodePort). in_stream p ins q.port) (ports_of n 0 takes)))
-is-among Q p ins n takes types past w q = grind (
-  arith,
-  cases_lt w.input takes,
-  among-pulled Q p ins n 0 takes w.input w.place,
-  past w.input,
-)
+is-among Q p ins n takes types past w q =
+    grind (arith, cases_lt w.input takes, among-pulled Q p ins n 0 takes w.input w.place)
 
 -- ---- kinds
 
@@ -124,12 +137,6 @@ made-typed {s} {ins = ins} {outs} k from o makes =
       makes c.types (All-head (λ (t : Table). MakesTypes (Some s) ins t.types) c chunks h),
       go chunks (All-tail (λ (t : Table). MakesTypes (Some s) ins t.types) c chunks h),
     )
-
--- what is kept of a kind, where each chunk that was pulled fits
-pub kept-rows : {s : Spec} {files : Files} {takes gives : ℕ} {p : BoxPicture} {ins outs : Lists}
-    → KeepsContract s files takes gives p ins outs → AllFit (Some s) ins → KeepsWorked s p ins outs
-kept-rows {s} {p = p} {ins} {outs} k fit =
-    worked-where-fit s p ins outs fit (subst (λ z. KeepsRows z p ins outs) k.loaded k.keeps.rows)
 
 -- a kind of one output, by what it gives and the types that it makes
 pub one-output : {s : Spec} {files : Files} {takes : ℕ} (n : ℕ) {p : BoxPicture} {ins outs : Lists}
@@ -162,10 +169,9 @@ through-kind make extends s P n {p = p} {ins} {outs} same from unlimited keeps g
     one-output n k
     (λ fit.
     let m = keeps (kept-rows k (one-fits s P ins same k.nothing_past (from fit.0))) in
-    let some : 0 < kept_outputs p = let e = k.outputs in omega (arith, e) in
     gives (record {
       front = made-front make extends s p ins outs m.0 m.1;
-      input_done = grind (arith, stays-open, keeps);
+      input_done = stays-open k 0 0 (omega arith) (omega arith) unlimited;
     })) makes
 
 -- with as many ports as the spec says
@@ -236,39 +242,31 @@ numbers-typed count rows ins from t e = e
 -- Numbers count up.
 pub numbers-gives : (count rows : ℕ) → KindGives (spec.Numbers count rows)
 numbers-gives count rows files takes gives n p ins outs k =
-    at-ports n 0 1 k.ports.0 k.ports.1
-    (λ h.
-    let m = kept-rows h (λ i d x lt. tt) in
-    one-output {s = spec.Numbers count rows} n h
-    (λ fit. record {
-      front = grind (arith, front-of, rows, append_assoc);
-      valid = λ done. refl;
-    })
-    (numbers-typed count rows ins [])) k
+    grind (arith, at-ports, kept-rows, one-output, front-of, append_assoc, numbers-typed)
 
 -- A limit gives the rows of its span.
 pub limit-gives : (span : Span) → KindGives (spec.Limit span)
 limit-gives span files takes gives n p ins outs k =
     at-ports n 1 1 k.ports.0 k.ports.1
     (λ h.
-    let some : 0 < kept_outputs p = let e = h.outputs in omega (arith, e) in
     one-output n h (λ fit. record {
       front =
           let m = kept-rows h (λ i d x lt. tt) in
           made-front (limited (Some span)) (limited-extends span) (spec.Limit span) p ins outs m
           m.rows.made_are;
-      input_done = grind (arith, open-or-enough);
+      input_done = open-or-enough h 0 0 (omega arith) (omega arith);
     }) (λ t w. is-among (λ u. t ≡ u) p ins n 1 t h.nothing_past w refl)) k
 
 -- A collector gives nothing.
 pub collect-gives : KindGives spec.Collect
 collect-gives files takes gives n p ins outs k = search (arith, at-ports)
 
--- a collector has all of its input
-pub collector-done : (p : BoxPicture) (ins outs : Lists) → p.spec ≡ Some spec.Collect
-    → Keeps p ins outs
-    → kept_outputs p ≡ 0 → (in_stream p ins 0).done ≡ true
-collector-done p ins outs e k none = search (arith, not_from_false, false_from_ne_true)
+-- a collector that has finished has all of its input
+pub collector-done : (p : BoxPicture) (ins outs : Lists) (takes gives : ℕ)
+    → p.spec ≡ Some spec.Collect → Keeps p ins outs → takes ≡ 1 → gives ≡ 0
+    → HasFinished takes gives p → (in_stream p ins 0).done ≡ true
+collector-done p ins outs takes gives e k one none f =
+    grind (arith, false_from_ne_true, and_from, or_cases)
 
 -- and what it gathered are the chunks that it pulled
 pub collector-gathered : (p : BoxPicture) (ins outs : Lists) → IsWorkOf (Some spec.Collect) p.work

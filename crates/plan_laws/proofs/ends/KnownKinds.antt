@@ -1,5 +1,5 @@
 -- Plans have nodes of known kinds alone.
-use Rattle.plan_laws.proofs.Imports.{FileHas, FileRead, IfSome, List, None, Option, Some, [], arith, file_read, refl, resize_node, subst, suc, sym, zero, ℕ, ◌<◌, ◌∷◌, ◌≡◌, AllByRecursion, DraftNode, IsPlan, IsSourceSpec, JoinsSources, NodeForm, PartSpec, PlanJoin, PlanShape, SelectPlan, SortSpec, Span, Spec, every-append, every-front, every-weaker, forms, body_nodes, collect_node, gather_nodes, lane_nodes, lane_steps, limit_nodes, node_form, plan_nodes, read_steps, select_steps, shape_nodes, sort_nodes, source_nodes, ⊤, IsReady, IsStep, IsUngrown, KnownPorts, SourceHas, IsKnown, nodes_behind, moved_node}
+use Rattle.plan_laws.proofs.Imports.{IfSome, List, None, Option, Some, [], arith, resize_node, subst, suc, sym, zero, ℕ, ◌<◌, ◌∷◌, ◌≡◌, AllByRecursion, DraftNode, IsPlan, IsSourceSpec, JoinsSources, NodeForm, PartSpec, PlanJoin, SelectPlan, SortSpec, Span, Spec, every-append, every-front, every-weaker, forms, body_nodes, collect_node, gather_nodes, lane_nodes, lane_steps, limit_nodes, node_form, plan_nodes, select_steps, sort_nodes, source_nodes, ⊤, IsReady, IsStep, KnownPorts, SourceHas, IsKnown, moved_node}
 use Rattle.plan_laws.proofs.meaning.Same.{by-forms, same-spec}
 use Rattle.plan_laws.proofs.meaning.Frames.{every-moved}
 use Rattle.plan_laws.proofs.KindTable.{known-gives, known-ports}
@@ -8,14 +8,7 @@ use Rattle.plan_laws.proofs.KindTable.{known-gives, known-ports}
 
 -- a node of a known kind is ready
 pub known-ready : (P L : PartSpec → Type 0) (n : DraftNode) → IsStep P L n → IsReady n
-known-ready P L n h = go n.spec refl h.0
-  where
-    ordinary : IsUngrown n.spec → KnownPorts n.spec n.takes n.gives → IsReady n
-    ordinary u ports =
-        grind (arith, known-ports n.spec n.takes n.gives u ports, known-gives n.spec u)
-
-    go : (s : Spec) → n.spec ≡ s → KnownPorts n.spec n.takes n.gives → IsReady n
-    go s e ports = grind (arith, ordinary, e)
+known-ready P L n h = grind (arith, known-ports, known-gives)
 
 -- What is true of each node of a rank and with known ports that is no source's, and stays true
 -- behind other ends, is true of a plan's nodes where it is of its sources.
@@ -40,16 +33,12 @@ module _ (Q : DraftNode → Type 0)
   sort-have : (o : Option SortSpec) → AllByRecursion Q (sort_nodes o)
   sort-have o = grind arith
 
-  shape-have : (s : PlanShape) (o : Option SortSpec) (lanes : ℕ)
-      → AllByRecursion Q (shape_nodes s o lanes)
-  shape-have s o lanes = grind (arith, every-append, lanes-have, gather-have, sort-have)
-
   limit-have : (l : Option Span) → AllByRecursion Q (limit_nodes l)
   limit-have l = grind arith
 
   -- the steps in the lanes
   pub lane-have : (p : SelectPlan) → AllByRecursion Q (lane_steps p)
-  lane-have p = grind (arith, every-append, shape-have, limit-have, lanes-have)
+  lane-have p = grind (arith, every-append, limit-have, lanes-have, gather-have, sort-have)
 
   -- the resizes into the lanes
   abbrev Resizes : SelectPlan → Type 0
@@ -59,18 +48,7 @@ module _ (Q : DraftNode → Type 0)
   pub select-have : (ends : ℕ) (p : SelectPlan) → Resizes p
       → IfSome p.join (λ (j : PlanJoin). AllByRecursion Q (source_nodes 0 j.sources))
       → AllByRecursion Q (select_steps ends p)
-  select-have ends p resizes second =
-      every-append Q (read_steps ends p.join p.lanes) (lane_steps p) (read p.join second)
-      (lane-have p)
-    where
-      read : (j : Option PlanJoin)
-          → IfSome j (λ (j : PlanJoin). AllByRecursion Q (source_nodes 0 j.sources))
-          → AllByRecursion Q (read_steps ends j p.lanes)
-      read None h = (resizes 2 ends (omega arith), tt)
-      read (Some j) h =
-          every-append Q (nodes_behind ends (source_nodes 0 j.sources)) _
-          (every-moved Q ends 0 (moved' ends) (source_nodes 0 j.sources) h)
-          (grind (arith, resizes 4 1 (omega arith)))
+  select-have ends p resizes second = grind (arith, every-append, lane-have, every-moved)
 
   pub plan-have : (p : SelectPlan) → Resizes p → AllByRecursion Q (source_nodes 0 p.sources)
       → IfSome p.join (λ (j : PlanJoin). AllByRecursion Q (source_nodes 0 j.sources))
@@ -98,10 +76,6 @@ module _ (P L : PartSpec → Type 0) where
   sources-known i [] h parts = tt
   sources-known i (s ∷ specs) h parts = grind (arith, sources-known (suc i) specs h.1 parts.1)
 
-  of-step : (s : Spec) (rank offset takes gives : ℕ) → 0 < rank → KnownPorts s takes gives
-      → SourceHas (λ part. ⊥) (λ list. ⊥) s → Known s takes gives
-  of-step s rank offset takes gives r h none = grind arith
-
   -- what is true of the parts of both tables
   abbrev pub BothHave : SelectPlan → Type 0
   BothHave p = AllByRecursion (SourceHas P L) p.sources
@@ -110,16 +84,14 @@ module _ (P L : PartSpec → Type 0) where
   joined-known : (j : Option PlanJoin) → JoinsSources j
       → IfSome j (λ (j : PlanJoin). AllByRecursion (SourceHas P L) j.sources)
       → IfSome j (λ (j : PlanJoin). AllByRecursion (IsStep P L) (source_nodes 0 j.sources))
-  joined-known None are more = tt
-  joined-known (Some j) are more = sources-known 0 j.sources are more
+  joined-known j are more = grind (arith, sources-known)
 
   resizes-known : (p : SelectPlan) → 0 < p.lanes → (rank takes : ℕ) → 0 < rank
       → IsStep P L (resize_node rank takes p.lanes)
   resizes-known p some rank takes r = grind arith
 
   plan-known : (p : SelectPlan) → IsPlan p → BothHave p → AllByRecursion (IsStep P L) (plan_nodes p)
-  plan-known p is parts =
-      grind (arith, plan-have, of-step, resizes-known, sources-known, joined-known)
+  plan-known p is parts = grind (arith, plan-have, resizes-known, sources-known, joined-known)
 
   -- all nodes but the collector
   pub body-known : (p : SelectPlan) → IsPlan p → BothHave p
@@ -131,8 +103,7 @@ module _ (P L : PartSpec → Type 0) where
   pub select-known : (ends : ℕ) (p : SelectPlan) → 0 < p.lanes → JoinsSources p.join
       → IfSome p.join (λ (j : PlanJoin). AllByRecursion (SourceHas P L) j.sources)
       → AllByRecursion (IsStep P L) (select_steps ends p)
-  select-known ends p some is parts =
-      grind (arith, select-have, of-step, resizes-known, joined-known)
+  select-known ends p some is parts = grind (arith, select-have, resizes-known, joined-known)
 
   -- Each node of such a plan's graph is of a known kind, and what is true of the sources' parts is
   -- true of its part.
@@ -143,15 +114,11 @@ module _ (P L : PartSpec → Type 0) where
 -- nothing is asked of parts
 pub any-parts : (specs : List Spec) → AllByRecursion (SourceHas (λ part. ⊤) (λ list. ⊤)) specs
 any-parts [] = tt
-any-parts (s ∷ specs) = (any-file (file_read (Some s)), any-parts specs)
-  where
-    any-file : (r : FileRead) → FileHas (λ part. ⊤) (λ list. ⊤) r
-    any-file r = grind arith
+any-parts (s ∷ specs) = grind (arith, any-parts specs)
 
 pub any-joined : (j : Option PlanJoin)
     → IfSome j (λ (j : PlanJoin). AllByRecursion (SourceHas (λ part. ⊤) (λ list. ⊤)) j.sources)
-any-joined None = tt
-any-joined (Some j) = any-parts j.sources
+any-joined j = grind (arith, any-parts)
 
 -- nodes with the forms of nodes of known kinds are ready
 pub known-nodes : (nodes steps : List DraftNode) → forms nodes ≡ forms steps

@@ -1,7 +1,5 @@
 -- How many boxes a query needs, by its tables and by which clauses it has.
-use Rattle.std.proofs.lemmas.Grind.{common_steps}
-use Rattle.plan_laws.proofs.Imports.{Bool, List, None, [], arith, cond, false, is_some, length, sum_by, true, ℕ, ◌*◌, ◌+◌, ◌∷◌, ◌≡◌, ◌≤◌, Checked, Grouped, Kind, PartsDecl, Plain, Shape, TableDecl, TableUse, crowded, first_crowded, list_sources_need, query_boxes, part_sources_need, sum_by-cons, table_need, used_tables}
-use Rattle.plan_laws.proofs.meaning.SmallPlans.{few-paths, few-uses}
+use Rattle.plan_laws.proofs.Imports.{Bool, List, [], arith, cond, false, is_some, sum_by, true, ℕ, ◌+◌, ◌∷◌, ◌≡◌, Checked, Grouped, Kind, PartsDecl, Plain, Shape, TableDecl, TableUse, list_sources_need, query_boxes, part_sources_need, table_need, used_tables}
 use Rattle.query_model.specs.declared.processor_spec.Kind.TheVariants as kind
 
 -- whether there are any
@@ -51,26 +49,3 @@ pub need_by_clauses : (tables : List TableDecl) (lanes : ℕ) (q : Checked) (k :
     ≡ clause_need tables lanes (used_tables q) (are_two (used_tables q)) (is_some q.filter)
     (are_grouped q.shape) (are_tested q.shape) (are_some q.order) (is_some q.limit) k
 need_by_clauses tables lanes q k = grind arith
-
--- how many sources the used tables need: parts, lists of them, and numbers
-pub record AreFewSources (tables : List TableDecl) (us : List TableUse) : Type 0 where
-  pub parts : uses_need part_sources_need 0 tables us ≤ 32 * length us
-  pub lists : uses_need list_sources_need 0 tables us ≤ length us
-  pub numbers : uses_need (λ decl. 0) 1 tables us ≤ length us
-
-source_bounds : (tables : List TableDecl) (u : TableUse) → crowded tables u ≡ None
-    → (table_need part_sources_need 0 tables u ≤ 32)
-    × (table_need list_sources_need 0 tables u ≤ 1) × (table_need (λ decl. 0) 1 tables u ≤ 1)
-source_bounds tables u few = grind (arith, few-paths)
-
-pub few_sources : (tables : List TableDecl) (us : List TableUse)
-    → first_crowded tables us ≡ None → AreFewSources tables us
-few_sources tables [] few = search (arith)
-few_sources tables (u ∷ us) few = grind (
-  arith,
-  common_steps,
-  source_bounds,
-  few-uses,
-  sum_by-cons,
-  few_sources tables us (few-uses tables u us few).1,
-)

@@ -1,6 +1,6 @@
 -- The parts that the sources of a used table read, and the lists that name them.
 use Rattle.std.proofs.lemmas.Grind.{common_steps}
-use Rattle.plan_laws.proofs.Imports.{Bool, IfSome, List, None, Option, Some, [], ap, arith, flat_map, part_source, refl, slice_get, suc, sym, true, ℕ, ◌++◌, ◌+◌, ◌∙◌, ◌∷◌, ◌≡◌, ◌⊎◌, All, All-append, All-cons, All-nil, AllByRecursion, CheckedJoin, Cond, Contains, Contains-append_left, Contains-append_right, Declared, Expr, Files, HasEnoughRows, IsCut, IsListUsed, IsValidPart, IsValidUsed, ListFile, Numbers, SourceRows, PartSpec, RowsOfSources, PartsDecl, Paths, PlanJoin, SourceReading, Row, SelectPlan, Span, Spec, TableDecl, TableUse, UsedPart, all_valid, and_parts, both_ways, column_types, declared_sources, file_bytes, join_of, join_use, join_valid, numbered_parts, part_paths, part_sources, part_spec, parts_declared, parts_used, path_sources, paths_in, plain, plan_valid, read_rows, read_valid, table_reading, rows_where, shape_rows, sources_rows, table_sources, IsListDeclared, IsValidList, SourceHas, is_valid_list, part_of, sources_of_files, used_part}
+use Rattle.plan_laws.proofs.Imports.{Bool, IfSome, List, None, Option, Some, [], ap, arith, flat_map, part_source, refl, slice_get, suc, sym, true, ℕ, ◌++◌, ◌+◌, ◌∙◌, ◌∷◌, ◌≡◌, ◌⊎◌, All, All-append, All-cons, All-nil, AllByRecursion, CheckedJoin, Contains, Contains-append_left, Contains-append_right, Declared, Files, HasEnoughRows, IsCut, IsListUsed, IsValidPart, IsValidUsed, ListFile, Numbers, SourceRows, PartSpec, RowsOfSources, PartsDecl, Paths, PlanJoin, SourceReading, Row, SelectPlan, Span, Spec, TableDecl, TableUse, UsedPart, all_valid, and_parts, both_ways, column_types, declared_sources, file_bytes, join_of, join_use, join_valid, numbered_parts, part_paths, part_sources, part_spec, parts_declared, parts_used, path_sources, paths_in, plan_valid, read_valid, table_reading, table_sources, IsListDeclared, IsValidList, SourceHas, is_valid_list, part_of, sources_of_files, used_part}
 use Rattle.plan_laws.proofs.meaning.KindLaws.{enough-some}
 
 -- ---- the parts that are read
@@ -165,11 +165,6 @@ both-valid parts sources j e = grind (arith, and_parts)
 some-row : (limit : Option Span) (rows : List Row) → HasEnoughRows limit rows → rows ≡ [] → ⊥
 some-row limit rows h e = grind (arith, enough-some)
 
-none-read : (parts : RowsOfSources) (sources : List Spec) (j : Option PlanJoin) (f : Option Cond)
-    (items : List Expr) → sources_rows parts sources ≡ []
-    → shape_rows (plain items) (rows_where f (read_rows parts sources j)) ≡ []
-none-read parts sources j f items e = grind arith
-
 -- A run that answered has all parts that must be valid, and found each of its lists valid: a bad
 -- one has no row, so that no limit has enough.
 pub lists-valid : (tables : List TableDecl) (header : Bool) (rows : ℕ) (files : Files)
@@ -179,4 +174,4 @@ pub lists-valid : (tables : List TableDecl) (header : Bool) (rows : ℕ) (files 
     → (plan_valid (sources_of_files files) p ≡ true) ⊎ IsCut (sources_of_files files) p
     → All (IsListUsed files tables) (from ∷ join_use j)
 lists-valid tables header rows files from j p sources join h =
-    grind (arith, table-valid, joined-valid, both-valid, some-row, none-read)
+    grind (arith, table-valid, joined-valid, both-valid, some-row)

@@ -1,6 +1,6 @@
--- At the end of a run of a query's plan the collector has an answer of the query, and its boxes
--- pulled their flow.
-use Rattle.plan_laws.proofs.Imports.{Bool, IfSome, List, None, Option, Some, [], ap, arith, collector_kind, cond, flat_map, length, list_source, part_source, refl, slice_get, subst, suc, sym, true, ℕ, ◌+◌, ◌<◌, ◌∙◌, ◌∷◌, ◌≡◌, ◌⊎◌, All, AllByRecursion, body_nodes, AreKeyPairs, BoxPicture, Checked, CheckedJoin, ColumnType, Database, Declared, DraftNode, Files, HasCalls, IsAnswer, IsCut, IsPlanOf, IsSmall, IsSourceSpec, IsTypedFilter, IsTypedShape, JoinsSources, Kind, ListFile, NodePort, Numbers, PartSpec, RowsOfSources, PartsDecl, Paths, SourceReading, SelectPlan, SortKey, Spec, Stream, Table, TableDecl, TableUse, append-nil, chunk_rows, count_over, database, declared_sources, declared_table, flow, forms, get_or-map, get_or_past, join_of, join_pulls, join_spec, joined_table, length-map, of_kind, order_of, output_rows, part_paths, part_rows, part_sources, part_spec, path_sources, plan_keys, plan_nodes, plan_rows, plan_valid, pulled_rows, read_rows, table_reading, rows_joined, same_kind, select_plan, shape_of, slice_get_cases, source_types, sources_rows, sum_by-cons, table_sources, types_declared, used_table, used_types, HasEnded, part_of, sources_of_files, stream_pulled_at, PlanAnswers, shape_types, query_boxes}
+-- In a run of a query's plan the collector has a front of an answer of the query; at the end it has
+-- the answer, and its boxes pulled their flow.
+use Rattle.plan_laws.proofs.Imports.{Bool, IfSome, List, None, Option, Some, [], ap, arith, collector_kind, cond, flat_map, length, list_source, part_source, refl, slice_get, subst, suc, sym, true, ℕ, ◌+◌, ◌<◌, ◌∙◌, ◌∷◌, ◌≡◌, ◌⊎◌, All, AllByRecursion, body_nodes, AreKeyPairs, BoxPicture, Checked, CheckedJoin, ColumnType, Database, Declared, DraftNode, Files, HasCalls, IsAnswer, IsCut, IsPlanOf, IsSmall, IsSourceSpec, IsTypedFilter, IsTypedShape, JoinsSources, Kind, ListFile, NodePort, Numbers, PartSpec, RowsOfSources, PartsDecl, Paths, SourceReading, SelectPlan, SortKey, Spec, Stream, Table, TableDecl, TableUse, append-nil, chunk_rows, count_over, database, declared_sources, declared_table, flow, forms, get_or-map, get_or_past, join_of, join_pulls, join_spec, joined_table, length-map, of_kind, order_of, output_rows, part_paths, part_rows, part_sources, part_spec, path_sources, plan_keys, plan_nodes, plan_rows, plan_valid, pulled_rows, read_rows, table_reading, rows_joined, same_kind, select_plan, shape_of, slice_get_cases, source_types, sources_rows, sum_by-cons, table_sources, types_declared, used_table, used_types, HasEnded, part_of, sources_of_files, stream_pulled_at, shape_types, query_boxes, LawfulSnapshot, Row, ◌++◌}
 use Rattle.plan_laws.proofs.meaning.Plans.{PlanMade, plan-block}
 use Rattle.plan_laws.proofs.meaning.Fitting.{body-level}
 use Rattle.plan_laws.proofs.meaning.PlanGraphs.{plan-graph}
@@ -12,7 +12,7 @@ use Rattle.query_model.specs.declared.processor_spec.Kind.TheVariants as kind
 use Rattle.plan_laws.proofs.ends.Answers.{ListRun}
 use Rattle.plan_laws.proofs.ends.Columns.{IsTypedSelect}
 use Rattle.plan_laws.proofs.ends.Flows.{HasFlowed, collector-pulled, flow-pulled}
-use Rattle.plan_laws.proofs.ends.LaidEnds.{laid-ended}
+use Rattle.plan_laws.proofs.ends.LaidEnds.{laid-ended, laid-run}
 use Rattle.plan_laws.proofs.ends.LaidPlans.{IsQueryPlan, made_types, select-laid}
 use Rattle.plan_laws.proofs.ends.ShapeTypes.{has-calls}
 use Rattle.plan_laws.proofs.ends.TypedPlans.{FitsOrdering, IsTypedJoin, read_types}
@@ -24,16 +24,11 @@ abbrev table_in : Bool → Files → Option TableDecl → Table
 table_in header files None = record { types = []; rows = [] }
 table_in header files (Some decl) = declared_table header files decl
 
--- the table of the database is that of the declaration
-table-at : (header : Bool) (files : Files) (tables : List TableDecl) (t : ℕ)
-    → used_table (database header files tables) (Declared t) ≡ table_in header files
-    (slice_get tables t)
-table-at header files tables t = grind (arith, slice_get_cases, get_or-map, get_or_past, length-map)
-
 -- the types of a used table's columns
 pub types-used : (header : Bool) (files : Files) (tables : List TableDecl) (u : TableUse)
     → used_types tables u ≡ (used_table (database header files tables) u).types
-types-used header files tables u = grind (arith, table-at)
+types-used header files tables u =
+    grind (arith, slice_get_cases, get_or-map, get_or_past, length-map)
 
 module _ (files : Files) (parts : RowsOfSources)
     (same : (part : PartSpec) → parts (part_source part) ≡ part_of files part) where
@@ -54,14 +49,8 @@ declared-rows files r (ListFile path) = search (arith, append-nil, paths-rows)
 pub rows-used : (header : Bool) (files : Files) (tables : List TableDecl) (rows : ℕ) (u : TableUse)
     → sources_rows (sources_of_files files) (table_sources tables header rows u)
     ≡ (used_table (database header files tables) u).rows
-rows-used header files tables rows (Declared t) =
-    go (slice_get tables t) ∙ ap (λ (z : Table). z.rows) (sym (table-at header files tables t))
-  where
-    go : (o : Option TableDecl) → sources_rows (sources_of_files files)
-        (declared_sources header rows t o) ≡ (table_in header files o).rows
-    go None = refl
-    go (Some decl) = declared-rows files (table_reading header rows t decl) decl.parts
-rows-used header files tables rows (Numbers n) = append-nil _
+rows-used header files tables rows u =
+    grind (arith, declared-rows, append-nil, slice_get_cases, get_or-map, get_or_past, length-map)
 
 -- ---- sources
 
@@ -205,68 +194,95 @@ query-plan q tables lanes rows header typed some =
     order-fits v [] within = tt
     order-fits v (key ∷ keys) within = record { types_are = refl; keys_within = within }
 
--- What the collector pulled is an answer of the query, over the rows before the first bad record of
--- each part, with the plan's clause on bad parts. Without LIMIT the nodes of each kind that was
--- taken pulled its flow.
+-- At one moment of a run of the plan's graph what the collector pulled is the front of an answer of
+-- the query, over the rows before the first bad record of each part.
+pub record QueryFront (q : Checked) (header : Bool) (files : Files) (tables : List TableDecl)
+    (nodes : List DraftNode) (boxes : List BoxPicture) (h : LawfulSnapshot files nodes boxes)
+    (last : ℕ) : Type 0 where
+  pub rest : List Row
+  pub answer : IsAnswer q (database header files tables)
+      (chunk_rows (h.lists.pulled last 0) ++ rest)
+
+-- At its end that is the answer, with the plan's clause on bad parts. Without LIMIT the nodes of
+-- each kind that was taken pulled its flow.
 pub record QueryAnswered (q : Checked) (header : Bool) (files : Files) (tables : List TableDecl)
     (lanes : ℕ) (plan : SelectPlan) (nodes : List DraftNode) (boxes : List BoxPicture)
-    (h : HasEnded files nodes boxes) (last : ℕ) : Type 0 where
-  pub answer : IsAnswer q (database header files tables) (chunk_rows (h.done.pulled last 0))
+    (h : LawfulSnapshot files nodes boxes) (last : ℕ) : Type 0 where
+  pub answer : IsAnswer q (database header files tables) (chunk_rows (h.lists.pulled last 0))
   pub output : plan_rows (sources_of_files files) plan
       ≡ output_rows q (database header files tables)
   pub valid : (plan_valid (sources_of_files files) plan ≡ true)
       ⊎ IsCut (sources_of_files files) plan
   pub run : ListRun files (plan_nodes plan) nodes boxes h last
-  pub collected : pulled_rows collector_kind 0 nodes (stream_pulled_at boxes h.done.pulled)
-      ≡ length (chunk_rows (h.done.pulled last 0))
+  pub collected : pulled_rows collector_kind 0 nodes (stream_pulled_at boxes h.lists.pulled)
+      ≡ length (chunk_rows (h.lists.pulled last 0))
   pub pulled : q.limit ≡ None → (k : Kind) → 0 < query_boxes q tables lanes k
-      → IfSome (flow k q (database header files tables) (chunk_rows (h.done.pulled last 0)))
-      (λ n. pulled_rows k 0 nodes (stream_pulled_at boxes h.done.pulled) ≡ n)
+      → IfSome (flow k q (database header files tables) (chunk_rows (h.lists.pulled last 0)))
+      (λ n. pulled_rows k 0 nodes (stream_pulled_at boxes h.lists.pulled) ≡ n)
 
--- At the end of a run of the plan of a typed query, by lawful boxes loaded with copies of its
--- nodes' specs, the collector has pulled an answer of the query.
-pub planned-ended : (q : Checked) (tables : List TableDecl) (lanes rows : ℕ) (header : Bool)
-    (files : Files) (nodes : List DraftNode) (boxes : List BoxPicture)
-    (h : HasEnded files nodes boxes) (last : ℕ) → IsTypedSelect tables q → 0 < lanes
-    → IsSmall (select_plan q tables lanes rows header)
-    → forms nodes ≡ forms (plan_nodes (select_plan q tables lanes rows header))
-    → length (plan_nodes (select_plan q tables lanes rows header)) ≡ last + 1
-    → QueryAnswered q header files tables lanes (select_plan q tables lanes rows header) nodes
-    boxes h last
-planned-ended q tables lanes rows header files nodes boxes h last typed some small e count =
-    let plan : SelectPlan = select_plan q tables lanes rows header in
-    let db : Database = database header files tables in
-    let is : IsPlanOf q db (sources_of_files files) plan =
-    plan-of q tables lanes rows header files
-    (has-calls (source_types tables q.from q.join) q.shape typed.typed.items) in
-    let ready : IsQueryPlan plan = query-plan q tables lanes rows header typed some in
-    let parts : RowsOfSources = sources_of_files files in
-    let level = body-level plan small in
-    let ended = laid-ended files (body_nodes plan) 14 level.rank (made_types plan ready)
-    (PlanMade parts plan) (select-laid parts plan ready small) level.low nodes e boxes h last
-    (plan-graph plan nodes small e).graph count in
-    let f : NodePort → Stream = stream_pulled_at boxes h.done.pulled in
-    let made = ended.made in
-    let front = ended.collected.front in
-    let done = ended.run.collected.done in
-    let answers : PlanAnswers parts plan (chunk_rows (h.done.pulled last 0)) =
-    grind (arith, made, front.all done, made.valid (front.certain done)) in
-    let block = plan-block parts plan ready.is in
-    let counts = (block.run [] (ended.collected.flow ∷ []) refl ended.collected.means).1 in
-    let flowed : HasFlowed plan (sources_of_files files) nodes f last = record {
-      same = e;
-      count = count;
-      one_collector = search (arith, none-kept, plan-needs);
-      pulled = λ k unlimited told.
-          ended.collected.counted (block.all_open unlimited) done k ∙ counts unlimited k told;
-    } in
-    record {
-      answer = query-answers q db parts plan (chunk_rows (h.done.pulled last 0)) is answers;
-      output = grind (arith, shape-selects);
-      valid = answers.valid;
-      run = ended.run;
-      collected = collector-pulled plan (sources_of_files files) nodes f last flowed;
-      pulled = λ unlimited k taken. flow-pulled plan (sources_of_files files) nodes f last flowed
-          unlimited q db is (λ k. join-pulled q tables lanes rows header files k q.join)
-          (shape_types q.shape (source_types tables q.from q.join)) rows refl k;
-    }
+-- A run of the plan of a typed query, by lawful boxes loaded with copies of its nodes' specs.
+module _ (q : Checked) (tables : List TableDecl) (lanes rows : ℕ) (header : Bool) (files : Files)
+    (nodes : List DraftNode) (boxes : List BoxPicture) (last : ℕ) (typed : IsTypedSelect tables q)
+    (some : 0 < lanes) (small : IsSmall (select_plan q tables lanes rows header))
+    (e : forms nodes ≡ forms (plan_nodes (select_plan q tables lanes rows header)))
+    (count : length (plan_nodes (select_plan q tables lanes rows header)) ≡ last + 1) where
+  abbrev plan : SelectPlan
+  plan = select_plan q tables lanes rows header
+
+  abbrev stored : Database
+  stored = database header files tables
+
+  abbrev parts : RowsOfSources
+  parts = sources_of_files files
+
+  is : IsPlanOf q stored parts plan
+  is = plan-of q tables lanes rows header files
+      (has-calls (source_types tables q.from q.join) q.shape typed.typed.items)
+
+  ready : IsQueryPlan plan
+  ready = query-plan q tables lanes rows header typed some
+
+  -- At one moment the collector has pulled the front of an answer of the query.
+  pub planned-front : (h : LawfulSnapshot files nodes boxes)
+      → QueryFront q header files tables nodes boxes h last
+  planned-front h =
+      let level = body-level plan small in
+      let run = laid-run files (body_nodes plan) 14 level.rank (made_types plan ready)
+      (PlanMade parts plan) (select-laid parts plan ready small) level.low nodes e boxes h last
+      (plan-graph plan nodes small e).graph count in
+      let front = run.collected.front in
+      record {
+        rest = front.rest;
+        answer = query-answers q stored parts plan run.collected.flow _ is run.made front.is;
+      }
+
+  -- At the end of a run it has pulled an answer.
+  pub planned-ended : (h : HasEnded files nodes boxes)
+      → QueryAnswered q header files tables lanes plan nodes boxes h.at_end last
+  planned-ended h =
+      let level = body-level plan small in
+      let ended = laid-ended files (body_nodes plan) 14 level.rank (made_types plan ready)
+      (PlanMade parts plan) (select-laid parts plan ready small) level.low nodes e boxes h last
+      (plan-graph plan nodes small e).graph count in
+      let f : NodePort → Stream = stream_pulled_at boxes h.at_end.lists.pulled in
+      let collected = ended.laid.collected in
+      let block = plan-block parts plan ready.is in
+      let counts = (block.run [] (collected.flow ∷ []) refl collected.means).1 in
+      let flowed : HasFlowed plan parts nodes f last = record {
+        same = e;
+        count = count;
+        one_collector = search (arith, none-kept, plan-needs);
+        pulled = λ k unlimited told.
+            collected.counted (block.all_open unlimited) ended.done k ∙ counts unlimited k told;
+      } in
+      record {
+        answer = query-answers q stored parts plan collected.flow _ is ended.laid.made
+            (collected.front.all ended.done);
+        output = grind (arith, shape-selects, is);
+        valid = ended.laid.made.valid (collected.front.certain ended.done);
+        run = ended.laid.run;
+        collected = collector-pulled plan parts nodes f last flowed;
+        pulled = λ unlimited k taken. flow-pulled plan parts nodes f last flowed unlimited q stored
+            is (λ k. join-pulled q tables lanes rows header files k q.join)
+            (shape_types q.shape (source_types tables q.from q.join)) rows refl k;
+      }

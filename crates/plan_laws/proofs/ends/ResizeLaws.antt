@@ -1,5 +1,5 @@
 -- What a resize keeps is what it gives: the rows of any inputs by any outputs.
-use Rattle.plan_laws.proofs.Imports.{IsPermutation, KeepsWorked, List, Some, [], ap, append_assoc, arith, false, map, refl, subst, suc, sym, true, zero, ℕ, ◌++◌, ◌+◌, ◌-◌, ◌<◌, ◌∙◌, ◌≡◌, ◌≤◌, AllByRecursion, AreResized, BoxPicture, Files, GivesResized, HasReadEnough, IsOver, IsPermutation-append_left, IsPermutation-refl, IsPermutation-trans, Lists, MakesType, NodePort, Row, Spec, Stream, Table, Types, all_done, rows_together, and_from, and_parts, any_done, append-nil, both_ways, chunk_rows, first_rows, flat_map-append, length-map, or_cases, ports_of, pulled_types, stream_rows, unworked_at, KeepsContract, KindGives, in_stream, out_stream, replicate}
+use Rattle.plan_laws.proofs.Imports.{IsPermutation, KeepsWorked, List, Some, [], ap, append_assoc, arith, false, map, refl, suc, true, zero, ℕ, ◌++◌, ◌+◌, ◌-◌, ◌<◌, ◌∙◌, ◌≡◌, ◌≤◌, AllByRecursion, AreResized, BoxPicture, Files, GivesResized, HasReadEnough, IsOver, IsPermutation-append_left, IsPermutation-refl, IsPermutation-trans, Lists, MakesType, NodePort, Row, Spec, Stream, Table, Types, all_done, rows_together, and_from, and_parts, any_done, append-nil, both_ways, chunk_rows, first_rows, flat_map-append, length-map, or_cases, ports_of, pulled_types, stream_rows, unworked_at, KeepsContract, KindGives, in_stream, out_stream, replicate}
 use Rattle.plan_laws.proofs.meaning.Fronts.{pairs_of_appends}
 use Rattle.plan_laws.proofs.meaning.PlanTypes.{OneType, each-fits, passes-type}
 use Rattle.plan_laws.proofs.graph.Drafts.{ports-length}
@@ -49,15 +49,19 @@ any-done : (f : ℕ → Stream) (n i k : ℕ) → any_done (at_ports f n i k) �
 any-done f n i zero e = absurd (both_ways false refl e)
 any-done f n i (suc k) e = grind (arith, or_cases, any-done f n (suc i) k)
 
-pub all-done : (f : ℕ → Stream) → ((i : ℕ) → (f i).done ≡ true) → (n i k : ℕ)
-    → all_done (at_ports f n i k) ≡ true
-all-done f h n i zero = refl
-all-done f h n i (suc k) = and_from _ _ (h i) (all-done f h n (suc i) k)
+pub all-done : (f : ℕ → Stream) (n i k : ℕ)
+    → ((j : ℕ) → i ≤ j → j < i + k → (f j).done ≡ true) → all_done (at_ports f n i k) ≡ true
+all-done f n i zero h = refl
+all-done f n i (suc k) h = and_from _ _ (h i (omega arith) (omega arith))
+    (all-done f n (suc i) k (λ j le lt. h j (omega (arith, le)) (omega (arith, lt))))
 
-pub each-port : (P : Stream → Type 0) (f : ℕ → Stream) → ((i : ℕ) → P (f i)) → (n i k : ℕ)
-    → AllByRecursion P (at_ports f n i k)
-each-port P f h n i zero = tt
-each-port P f h n i (suc k) = (h i, each-port P f h n (suc i) k)
+pub each-port : (P : Stream → Type 0) (f : ℕ → Stream) (n i k : ℕ)
+    → ((j : ℕ) → i ≤ j → j < i + k → P (f j)) → AllByRecursion P (at_ports f n i k)
+each-port P f n i zero h = tt
+each-port P f n i (suc k) h = (
+  h i (omega arith) (omega arith),
+  each-port P f n (suc i) k (λ j le lt. h j (omega (arith, le)) (omega (arith, lt))),
+)
 
 -- ---- what was worked, and what wasn't yet
 
@@ -106,10 +110,9 @@ gives-resized {takes = takes} {gives} {p} {ins} {outs} k n wait some unlimited m
       nothing_waits = search (arith, any-done, and_parts, none-past, all-worked-at);
       inputs_done = λ done.
           let d = any-done (out_stream p outs) n 0 gives done in
-          all-done (in_stream p ins) (λ i. stays-open p ins outs i d.port k.keeps
-          (subst (λ z. HasReadEnough z ins → ⊥) (sym k.loaded) unlimited)
-          (let within = d.in_range in let e = k.outputs in omega (arith, within, e)) d.done)
-          n 0 takes;
+          all-done (in_stream p ins) n 0 takes
+          (λ i le lt. stays-open k i d.port (omega (arith, lt))
+          (let within = d.in_range in omega (arith, within)) unlimited d.done);
     }
 
 -- A resize gives the rows of its inputs by its outputs.
@@ -121,9 +124,9 @@ resize-gives files takes gives n p ins outs k =
       gives = λ fit. gives-resized k n (chunk_rows p.work.made) k.ports (λ x. x) m m.rows.1
           (λ end. ap chunk_rows end.nothing_waits);
       typed = λ fit. each-port (λ (o : Stream). AllByRecursion (MakesType spec.Resize from) o.types)
-          (out_stream p outs)
-          (λ o. made-typed k from o
-          (λ t w. is-among (λ u. t ≡ u) p ins n takes t k.nothing_past w refl)) n 0 gives;
+          (out_stream p outs) n 0 gives
+          (λ o le lt. made-typed k from o
+          (λ t w. is-among (λ u. t ≡ u) p ins n takes t k.nothing_past w refl));
     }
 
 -- A resize passes on chunks of the types that it takes.

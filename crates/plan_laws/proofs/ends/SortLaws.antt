@@ -1,8 +1,8 @@
 -- What a sort and a merge keep is what they give.
-use Rattle.plan_laws.proofs.Imports.{Bool, IsPermutation, IsSorted, KeepsWorked, List, Some, [], ap, append_assoc, arith, false, inl, inr, length, length-append, not, refl, subst, suc, sym, true, zero, ℕ, ◌++◌, ◌+◌, ◌<◌, ◌∙◌, ◌∷◌, ◌≡◌, ◌≤◌, All-nil, AllByRecursion, AllFit, AreInputsSorted, AreMerged, BoxPicture, Contains-append_left, FitFrom, FitsInput, FitsOrder, GivesHeld, GivesMerged, HoldsBack, IsBeforeNone, IsPermutation-append_left, IsPermutation-trans, IsReadUp, IsSortOf, Lists, NotesEnd, Row, SortKey, SortSpec, Spec, Stream, Table, rows_together, and_parts, append-nil, cases_eq, cases_lt, chunk_rows, every-append, every-contains, every-front, every-none, every-turned, every-weaker, first_rows, head_at, head_rows, is_lt, kept_output, may-be-input, order-cross, order-from_sorted, order-front, own_of, past-open, row_cmp, rows-append, rows-ordered, stream_rows, sorted-from_order, unworked_at, KeepsContract, KindGives, chunk_types, in_stream, out_stream}
+use Rattle.plan_laws.proofs.Imports.{Bool, IsPermutation, IsSorted, KeepsWorked, List, Some, [], ap, append_assoc, arith, false, inl, inr, length, length-append, refl, subst, suc, sym, true, zero, ℕ, ◌++◌, ◌+◌, ◌<◌, ◌∙◌, ◌∷◌, ◌≡◌, ◌≤◌, All-nil, AllByRecursion, AllFit, AreInputsSorted, AreMerged, BoxPicture, Contains-append_left, FitFrom, FitsInput, FitsOrder, GivesHeld, GivesMerged, HoldsBack, IsBeforeNone, IsPermutation-append_left, IsPermutation-trans, IsReadUp, IsSortOf, Lists, NotesEnd, Row, SortKey, SortSpec, Spec, Stream, Table, rows_together, and_parts, append-nil, cases_eq, cases_lt, chunk_rows, every-append, every-contains, every-front, every-none, every-turned, every-weaker, first_rows, head_at, head_rows, is_lt, kept_output, order-cross, order-from_sorted, order-front, own_of, row_cmp, rows-append, rows-ordered, stream_rows, sorted-from_order, unworked_at, KeepsContract, KindGives, chunk_types, in_stream, out_stream, and_from}
 use Rattle.plan_laws.proofs.meaning.KindLaws.{sort-exists}
 use Rattle.query_model.specs.declared.processor_spec.Spec.TheVariants as spec
-use Rattle.plan_laws.proofs.ends.KindLaws.{one-output, all-worked-at, at-ports, front-of, kept-rows, one-fits, stays-open, types-fit}
+use Rattle.plan_laws.proofs.ends.KindLaws.{as-kept, one-output, all-worked-at, at-ports, front-of, kept-rows, one-fits, stays-open, types-fit}
 use Rattle.plan_laws.proofs.ends.ResizeLaws.{all-done, all-ports, at_ports, each-port, none-past, split-rows}
 
 pub front-none : {X : Type 0} (xs ys : List X) → xs ++ ys ≡ [] → xs ≡ []
@@ -17,23 +17,15 @@ back-none (x ∷ xs) ys e = absurd (cc)
 pub read-up : {s : Spec} {files : _} {takes gives : ℕ} {p : BoxPicture} {ins outs : Lists}
     → KeepsContract s files takes gives p ins outs → (i : ℕ) → i < takes
     → NotesEnd (Some s) (own_of p.work) i → IsReadUp p i
-read-up {takes = takes} {p = p} k i lt n = grind (arith, may-be-input p takes i (inr k.inputs) lt)
+read-up {takes = takes} {gives} {p} k i lt n = search (arith, as-kept)
 
 -- where the ends of all inputs are noted, each is done and worked
 pub all-worked : {s : Spec} {files : _} {takes gives : ℕ} {p : BoxPicture} {ins outs : Lists}
     → KeepsContract s files takes gives p ins outs → (m : KeepsWorked s p ins outs)
     → ((i : ℕ) → NotesEnd (Some s) (own_of p.work) i) → (i : ℕ)
-    → ((in_stream p ins i).done ≡ true) × (m.worked i ≡ ins i)
-all-worked {takes = takes} {p = p} k m noted i = grind (
-  arith,
-  cases_lt i takes,
-  read-up k i,
-  noted i,
-  append-nil,
-  k.nothing_past i,
-  past-open p i,
-  front-none (m.worked i) (unworked_at p.work i),
-)
+    → (i < takes → (in_stream p ins i).done ≡ true) × (m.worked i ≡ ins i)
+all-worked {takes = takes} {p = p} k m noted i =
+    search (arith, cases_lt, read-up, append-nil, and_from, front-none)
 
 -- ---- kinds that hold all rows until they note the end
 
@@ -60,7 +52,7 @@ sort-gives order files takes gives n p ins outs k =
     gives-held (IsSortOf order.keys (chunk_rows (ins 0))) p outs (in_stream p ins 0).done
     (sort-exists order.keys (chunk_rows (ins 0))) (λ e. (m.rows.gathered e).nothing_made)
     (λ e. let all = all-worked h m (λ i. e) 0 in (
-      all.0,
+      all.0 (omega arith),
       rw (ap chunk_rows all.1) at (m.rows.sorted e),
     ))
     (λ f. let end = m.over 0 f in (end.nothing_waits, end.all_made, end.noted))) (λ t e. e)) k
@@ -120,10 +112,6 @@ module _ (order : SortSpec) (files : _) (takes : ℕ) (p : BoxPicture) (ins outs
   merged : AreMerged keys p.work.heads m.worked (out ++ made)
   merged = m.rows.1
 
-  -- none comes in at an input past the last one
-  ended-past : (i : ℕ) → takes ≤ i → (in_stream p ins i).done ≡ true
-  ended-past i le = ap not (past-open p i (let e = k.inputs in omega (arith, e, le)))
-
   -- the rows of an input are those worked and those that aren't yet
   rows-are : (i : ℕ) → chunk_rows (ins i) ≡ chunk_rows (m.worked i) ++ chunk_rows
       (unworked_at p.work i)
@@ -131,15 +119,14 @@ module _ (order : SortSpec) (files : _) (takes : ℕ) (p : BoxPicture) (ins outs
 
   -- an input whose end is noted is done, and all of it is worked
   noted-done : (i : ℕ) → (head_at p.work.heads i).ended ≡ true
-      → ((in_stream p ins i).done ≡ true) × (chunk_rows (unworked_at p.work i) ≡ [])
+      → (i < takes → (in_stream p ins i).done ≡ true) × (chunk_rows (unworked_at p.work i) ≡ [])
   noted-done i e = grind (
     arith,
+    and_from,
     cases_lt i takes,
     read-up k i,
-    ended-past i,
     rows-are i,
     back-none (chunk_rows (m.worked i)) (chunk_rows (unworked_at p.work i)),
-    k.nothing_past i,
   )
 
   -- the rows at the ports are in order, and so are those of all inputs
@@ -195,20 +182,18 @@ module _ (order : SortSpec) (files : _) (takes : ℕ) (p : BoxPicture) (ins outs
       (merged.before_held sorted)) (every-list P 32 (unworked_at p.work) (unworked-behind s some))))
 
   -- an input holds back what is out
-  holds-back : 0 < length out → (i : ℕ) → HoldsBack keys out (in_stream p ins i)
-  holds-back some i = elim (cases_lt i takes) [
-    | inr le ↦ inl (ended-past i le)
-    | inl less ↦ elim (merged.held_back (let l = length-append out made in omega (arith, l, some)) i
-        (let few = k.few_inputs in omega (arith, less, few))) [
-          | inl e ↦ inl (noted-done i e).0
-          | inr w ↦ inr (
-            w.0,
-            rw (rows-are i) (Contains-append_left (chunk_rows (m.worked i))
-                (chunk_rows (unworked_at p.work i)) w.0 w.1),
-            every-front (λ x. lt w.0 x ≡ false) out made w.2,
-          )
-        ]
-  ]
+  holds-back : 0 < length out → (i : ℕ) → i < takes → HoldsBack keys out (in_stream p ins i)
+  holds-back some i less =
+      elim (merged.held_back (let l = length-append out made in omega (arith, l, some)) i
+      (let few = k.few_inputs in omega (arith, less, few))) [
+        | inl e ↦ inl ((noted-done i e).0 less)
+        | inr w ↦ inr (
+          w.0,
+          rw (rows-are i) (Contains-append_left (chunk_rows (m.worked i))
+              (chunk_rows (unworked_at p.work i)) w.0 w.1),
+          every-front (λ x. lt w.0 x ≡ false) out made w.2,
+        )
+      ]
 
   same-rows : IsPermutation (first_rows 32 ins) (out ++ waits)
   same-rows =
@@ -236,9 +221,11 @@ module _ (order : SortSpec) (files : _) (takes : ℕ) (p : BoxPicture) (ins outs
             (order-from_sorted lt o (out ++ made)
             (merged.in_order (worked-sorted (inputs-sorted n s)))));
         before_waits = λ s. behind-out (inputs-sorted n s) out refl;
-        held = λ some. each-port (HoldsBack keys out) (in_stream p ins) (holds-back some) n 0 takes;
+        held = λ some. each-port (HoldsBack keys out) (in_stream p ins) n 0 takes
+            (λ i le less. holds-back some i (omega (arith, less)));
         nothing_waits = λ done. nothing-left (and_parts _ _ done).0;
-        inputs_done = grind (arith, all-done, stays-open);
+        inputs_done = λ done. all-done (in_stream p ins) n 0 takes (λ i le less.
+            stays-open k i 0 (omega (arith, less)) (omega arith) (λ x. x) done);
       }
 
 -- A merge gives the rows of its inputs, in order where each of these is.

@@ -150,8 +150,7 @@ limit-typed v (Some span) =
 read-steps-typed : (ends : ℕ) (join : Option PlanJoin) (lanes : ℕ) (u : Types)
     → IfSome join (IsTypedJoin u)
     → Typed (read_steps ends join lanes) (replicate ends u) (replicate lanes (read_types u join))
-read-steps-typed ends None lanes u t =
-    joint-typed _ 2 ends lanes u u (resize-type ends u)
+read-steps-typed ends None lanes u t = search (arith, joint-typed, resize-type)
 read-steps-typed ends (Some j) lanes u t =
     let m : ℕ = length j.sources in
     let w : Types = j.join.right in
@@ -196,8 +195,7 @@ lane-typed p s u rows t =
 pub select-typed : (p : SelectPlan) (s : Shape) (u : Types) (rows ends : ℕ)
     → IsTypedPlan p s u rows
     → Typed (select_steps ends p) (replicate ends u) (shape_types s (read_types u p.join) ∷ [])
-select-typed p s u rows ends t =
-    typed-then (read-steps-typed ends p.join p.lanes u t.join) (lane-typed p s u rows t)
+select-typed p s u rows ends t = search (arith, typed-then, read-steps-typed, lane-typed)
 
 -- All nodes but the collector, where the sources of FROM all have the types u.
 pub body-typed : (p : SelectPlan) (s : Shape) (u : Types) (rows : ℕ) → IsTypedPlan p s u rows

@@ -1,5 +1,5 @@
 -- One port, wire or node more.
-use Rattle.chunk_data.proofs.Imports.{List, [], ap, arith, drop, get_or, length, suc, sym, take, zero, ℕ, ◌++◌, ◌+◌, ◌<◌, ◌∙◌, ◌∷◌, ◌≡◌, ◌≤◌}
+use Rattle.chunk_data.proofs.Imports.{List, [], ap, arith, get_or, length, suc, sym, take, zero, ℕ, ◌++◌, ◌+◌, ◌<◌, ◌∙◌, ◌∷◌, ◌≡◌}
 use Rattle.plan_laws.proofs.graph.GraphLaws.{with-append}
 use Rattle.plan_laws.proofs.Imports.{Wire, get_or-drop, length-drop, length-take-le, take_more, AllFitDraft, Draft, DraftNode, FitsDraft, NodePort, ports_of, run_of, wires_to, with_node, with_nodes}
 
@@ -29,11 +29,7 @@ pub wires-more : (n a k : ℕ) (xs : List NodePort) (d : NodePort) → a + k < l
     → wires_to n 0 (run_of a (k + 1) xs) ≡ wires_to n 0 (run_of a k xs)
     ++ wire_to n k (get_or xs (a + k) d) ∷ []
 wires-more n a k xs d lt =
-    let e : NodePort = get_or xs (a + k) d in
-    let len : 0 + length (run_of a k xs) ≡ k = let le : k ≤ length (drop a xs) =
-    omega (arith, lt, length-drop a xs) in omega (arith, length-take-le k (drop a xs) le) in
-    ap (wires_to n 0) (run-more a k xs d lt) ∙ wires-push n 0 (run_of a k xs) e
-    ∙ ap (λ m. wires_to n 0 (run_of a k xs) ++ wire_to n m e ∷ []) len
+    grind (arith, length-take-le, wires-push, length-drop a xs, run-more a k xs d lt)
 
 pub nodes-more : (nodes : List DraftNode) (i : ℕ) (node : DraftNode) (d : Draft) → i < length nodes
     → node ≡ get_or nodes i node
@@ -44,6 +40,5 @@ nodes-more nodes i node d lt is = ap (λ l. with_nodes l d) (take_more nodes i n
 -- the node at each place fits what the nodes before it made
 pub fit-at : (nodes : List DraftNode) (i : ℕ) (e : DraftNode) (d : Draft) → i < length nodes
     → AllFitDraft nodes d → FitsDraft (get_or nodes i e) (with_nodes (take i nodes) d)
-fit-at [] i e d lt f = absurd (omega (arith, lt))
-fit-at (x ∷ nodes) zero e d lt f = f.0
 fit-at (x ∷ nodes) (suc i) e d lt f = fit-at nodes i e (with_node x d) (omega (arith, lt)) f.1
+fit-at nodes i e d lt f = grind arith

@@ -97,13 +97,7 @@ pub node-fit : (node : DraftNode) (done taken left : List ℕ) → length done �
     → node.gives ≤ 16
     → FitsBlock (node ∷ []) (done ++ (taken ++ left))
     (done ++ (replicate node.gives node.rank ++ left))
-node-fit node done taken left a b low ins outs = grind (
-  arith,
-  run-at node.offset node.takes done taken left a b,
-  replaced-at node.offset node.takes (replicate node.gives node.rank) done taken left a b,
-  length-append done (taken ++ left),
-  length-append taken left,
-)
+node-fit node done taken left a b low ins outs = grind (arith, run-at, replaced-at, length-append)
 
 lanes-fit : (s : Spec) (q i k r : ℕ) (done : List ℕ) → length done ≡ i → r < q
     → FitsBlock (lane_nodes s q i k) (done ++ replicate k r) (done ++ replicate k q)
@@ -149,12 +143,7 @@ level-append f g =
 
 pub lanes-level : (s : Spec) (q n r t : ℕ) → r < q → q < t
     → Levels (lane_nodes s q 0 n) (replicate n r) n t
-lanes-level s q n r t low high =
-    record {
-      rank = q;
-      low = high;
-      block = lanes-fit s q 0 n r [] refl low;
-    }
+lanes-level s q n r t low high = grind (arith, lanes-fit s q 0 n r [] refl low)
 
 pub joint-level : (s : Spec) (q m n r t : ℕ) → r < q → q < t → m ≤ 32 → n ≤ 16
     → Levels (joint_node s q m n ∷ []) (replicate m r) n t

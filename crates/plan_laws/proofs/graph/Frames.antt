@@ -53,12 +53,7 @@ pub fits-moved : {nodes : List DraftNode} {a b : List ℕ} (ends rank : ℕ) (do
     → length done ≡ ends → FitsBlock nodes a b
     → FitsBlock (moved_nodes ends rank nodes) (done ++ map (λ r. rank + r) a)
     (done ++ map (λ r. rank + r) b)
-fits-moved {nodes} {a} ends rank done e f =
-    let m = moved-fit ends rank nodes done a e f.fit in
-    record {
-      fit = m.fit;
-      leaves = m.leaves ∙ ap (λ l. done ++ map (λ r. rank + r) l) f.leaves;
-    }
+fits-moved {nodes} {a} ends rank done e f = grind (arith, moved-fit ends rank nodes done a e f.fit)
 
 same-higher : (rs : List ℕ) → map (λ r. 0 + r) rs ≡ rs
 same-higher [] = refl

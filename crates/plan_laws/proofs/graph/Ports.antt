@@ -1,5 +1,5 @@
 -- The ports of nodes in order: each once, without a gap, and as many of each node as it has.
-use Rattle.std.proofs.Common.{Bool, List, [], ap, append_assoc, arith, cond, false, get_or, inl, inr, length, map, refl, subst, suc, sum, sum_by, sym, true, zero, ℕ, ◌&&◌, ◌++◌, ◌+◌, ◌<◌, ◌==◌, ◌∙◌, ◌∷◌, ◌≡◌, ◌≤◌, ◌⊎◌}
+use Rattle.std.proofs.Common.{Bool, List, [], ap, append_assoc, arith, cond, false, get_or, inr, length, map, refl, subst, suc, sum, sum_by, sym, true, zero, ℕ, ◌&&◌, ◌++◌, ◌+◌, ◌<◌, ◌==◌, ◌∙◌, ◌∷◌, ◌≡◌, ◌≤◌, ◌⊎◌}
 use Rattle.plan_laws.proofs.Imports.{All, All-append, All-cons, All-from_recursion, All-nil, All-weaker, AllByRecursion, Contains, Contains-append_left, Contains-append_right, IsDistinct, IsDistinct-cons, and_from, and_parts, apart_from_distinct, append-nil, both_ways, cases_lt, eq-eqb, eqb-true, false_from_ne_true, map-map, recursion_from_All, sum-map, sum_by-append, sum_by-cons, NodePort, ports_from, ports_of, nat_tests}
 
 -- ---- one more node
@@ -80,13 +80,11 @@ same_port-from p q n o = and_from _ _ (eq-eqb _ _ n) (eq-eqb _ _ o)
 node-differs : (p q : NodePort) → p.node < q.node → same_port p q ≡ false
 node-differs p q lt = search (arith, false_from_ne_true, eqb-true, and_parts)
 
-port-differs : (p q : NodePort) → p.port < q.port → same_port p q ≡ false
-port-differs p q lt = search (arith, false_from_ne_true, eqb-true, and_parts)
-
 later-differ : (n o m k : ℕ) → o < m
     → All (λ q. same_port (record { node = n; port = o }) q ≡ false) (ports_of n m k)
 later-differ n o m zero lt = All-nil _
-later-differ n o m (suc k) lt = search (arith, All-cons, port-differs, later-differ n o (suc m) k)
+later-differ n o m (suc k) lt =
+    grind (arith, false_from_ne_true, eqb-true, and_parts, later-differ n o (suc m) k)
 
 distinct-of : (n o k : ℕ) → IsDistinct same_port (ports_of n o k)
 unfolding IsDistinct
@@ -165,11 +163,7 @@ none-of n o k j lt = count-none (ports_of n o k) j
     (λ i h. inr lt)))
 
 none-later : (n j : ℕ) (ks : List ℕ) → j < n → sum_by (at_node j) (ports_from n ks) ≡ 0
-none-later n j ks lt = count-none (ports_from n ks) j
-    (recursion_from_All _ _ (All-weaker (IsPortFrom n ks) (λ (p : NodePort). j < p.node
-    ⊎ p.node < j)
-    (λ p h. let at : n + h.place ≡ p.node = h.is in inl (omega (arith, at, lt))) (ports_from n ks)
-    (ports-from n ks)))
+none-later n j ks lt = grind (arith, count-none, recursion_from_All, ports-from n ks)
 
 -- each node has as many ports as it is given
 pub count-at : (n m j : ℕ) (ks : List ℕ) → n + m ≡ j → sum_by (at_node j) (ports_from n ks) ≡ get_or

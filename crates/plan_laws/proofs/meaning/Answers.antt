@@ -71,7 +71,7 @@ pub record Collected (parts : RowsOfSources) (nodes : List DraftNode) (pulled : 
   pub counted : AllByRecursion IsOpenNode nodes → got.done ≡ true → (k : Kind)
       → pulled_rows k 0 nodes pulled ≡ meant_by parts k nodes [] (flow ∷ []) means
 
--- the one flow of a run's end
+-- the one flow of a run
 record OneFlow (parts : RowsOfSources) (nodes : List DraftNode) (s : Stream)
     (r : PlanRuns parts nodes [] (s ∷ [])) : Type 0 where
   pub flow : Flow

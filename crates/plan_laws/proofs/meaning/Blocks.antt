@@ -194,12 +194,10 @@ pub record Both (P Q : List Flow → Type 0) (flows : List Flow) : Type 0 where
 
 -- nothing is behind flows of which P is true
 pub none-behind : (P : List Flow → Type 0) (l : List Flow) → P l → Both P (λ x. x ≡ []) l
-none-behind P l p =
-    record { front = l; back = []; are = sym (append-nil l); first = p; second = refl }
+none-behind P l p = grind (arith, append-nil)
 
 pub all-before : (P : List Flow → Type 0) (l : List Flow) → Both P (λ x. x ≡ []) l → P l
-all-before P l b =
-    subst P (sym (b.are ∙ ap (λ x. b.front ++ x) b.second ∙ append-nil b.front)) b.first
+all-before P l b = grind (arith, append-nil)
 
 -- ---- marks
 

@@ -1,5 +1,5 @@
 -- The boxes of a kind that a query's plan uses are as many as the query needs.
-use Rattle.plan_laws.proofs.Imports.{Checked, CheckedJoin, ColumnType, Count, Declared, DraftNode, Grouped, Kind, Numbers, PartsDecl, Plain, Shape, TableDecl, TableUse, count_by-le-length, count_over, each_kept, grown_kind, if_declared, kind_of, list_kind, list_sources_need, query_boxes, of_kind, part_sources_need, plan_count, plan_nodes, row_of, same_kind, sources_count, sum_by-append, sum_by-cons, sum_by-replicate, table_need, Bool, List, None, Option, Some, [], arith, cond, false, length, refl, replicate, slice_get, suc, sum_by, sym, true, ℕ, ◌*◌, ◌+◌, ◌∷◌, ◌≡◌, ◌≤◌, PlanReserve, reserved_nodes, boxes_reserved, kept_at, reserves_from, SourceReading, declared_sources, ordered_plan, part_sources, path_sources, select_plan, table_sources}
+use Rattle.plan_laws.proofs.Imports.{Checked, CheckedJoin, ColumnType, Count, Declared, DraftNode, Grouped, Kind, Numbers, PartsDecl, Plain, Shape, TableDecl, TableUse, count_by-le-length, count_over, each_kept, grown_kind, if_declared, kind_of, list_kind, list_sources_need, query_boxes, of_kind, part_sources_need, plan_count, plan_nodes, row_of, same_kind, sources_count, sum_by-append, sum_by-cons, sum_by-replicate, table_need, Bool, List, None, Option, Some, [], arith, cond, false, length, refl, replicate, slice_get, suc, sum_by, sym, true, ℕ, ◌+◌, ◌∷◌, ◌≡◌, ◌≤◌, PlanReserve, reserved_nodes, boxes_reserved, kept_at, reserves_from, SourceReading, declared_sources, ordered_plan, part_sources, path_sources, select_plan, table_sources}
 use Rattle.plan_laws.proofs.meaning.Blocks.{none-of}
 use Rattle.plan_laws.proofs.meaning.Counts.{counted-append, lanes-counted, plan-counted}
 use Rattle.query_model.specs.declared.processor_spec.Kind.TheVariants as kind
@@ -10,9 +10,6 @@ only k j n = cond (same_kind j k) n 0
 
 only-more : (b : Bool) (n : ℕ) → cond b 1 0 + cond b n 0 ≡ cond b (suc n) 0
 only-more b n = grind arith
-
-only-times : (b : Bool) (n : ℕ) → n * cond b 1 0 ≡ cond b n 0
-only-times b n = grind arith
 
 -- the boxes of a kind that a node takes, and those that are kept for it
 abbrev pub boxes_for : Kind → Count
@@ -111,7 +108,7 @@ kept-counted f a w each n (z ∷ nodes) =
 pub boxes-counted : (k : Kind) (n : ℕ) (nodes : List DraftNode)
     → count_over (of_kind k) nodes + sum_by (boxes_reserved k) (reserves_from n nodes)
     ≡ count_over (boxes_for k) nodes
-boxes-counted k n nodes = search (arith, kept-counted, sum_by-replicate, only-times, sum_by-cons)
+boxes-counted k n nodes = search (arith, kept-counted, sum_by-replicate, sum_by-cons)
 
 -- The nodes and those that are kept for them.
 pub nodes-kept : (n : ℕ) (nodes : List DraftNode)

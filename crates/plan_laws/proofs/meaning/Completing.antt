@@ -1,5 +1,5 @@
--- What passed by the end of a run is the first of what passes where nobody closes an input.
-use Rattle.plan_laws.proofs.Imports.{Bool, List, [], arith, length, subst, sym, true, ◌++◌, ◌<◌, ◌∙◌, ◌∷◌, ◌≡◌, AllByRecursion, AllZip, AllZip-long, DraftNode, KeyPair, Spec, and_from, and_parts, both_ways, given_by, length-map, list_all-append, or_cases, or_left, taken_by, AllInputsDone, IsNoLimit, IsOpenNode, Pulls, PlanRuns, RunsNode, Completes, IsFront, Flow, OneToOne, RowsOfSources, Source, Stream, TwoToOne, all_done, any_done, flows_of, Gives, GivesJoined, MakesRows, is_certain, is_needed}
+-- What passed so far is the first of what passes where nobody closes an input.
+use Rattle.plan_laws.proofs.Imports.{Bool, List, [], arith, length, subst, sym, true, ◌++◌, ◌<◌, ◌∙◌, ◌∷◌, ◌≡◌, AllByRecursion, AllZip, AllZip-long, DraftNode, KeyPair, Spec, and_from, and_parts, both_ways, given_by, length-map, list_all-append, or_cases, or_left, taken_by, AllInputsDone, IsNoLimit, IsOpenNode, Pulls, PlanRuns, RunsNode, Completes, IsFront, Flow, OneToOne, RowsOfSources, Stream, TwoToOne, all_done, any_done, flows_of, Gives, GivesJoined, MakesRows, is_certain, is_needed}
 use Rattle.plan_laws.proofs.graph.Places.{run-split}
 use Rattle.plan_laws.proofs.KindTable.{complete-kind}
 use Rattle.plan_laws.proofs.meaning.KindLaws.{CompletesKind, done-rows}
@@ -59,10 +59,6 @@ one-done : (R : Stream → Stream → Type 0) → ((i o : Stream) → R i o → 
     → (ins outs : List Stream) → OneToOne R ins outs → any_done outs ≡ true → all_done ins ≡ true
 one-done R f ins outs r e = grind (arith, or_cases, and_from, both_ways)
 
-source-done : (P : Stream → Type 0) (ins outs : List Stream) → Source P ins outs
-    → all_done ins ≡ true
-source-done P ins outs r = grind arith
-
 join-done : (pairs : List KeyPair) (ins outs : List Stream) → TwoToOne (GivesJoined pairs) ins outs
     → any_done outs ≡ true → all_done ins ≡ true
 join-done pairs ins outs q e = grind (arith, or_cases, and_from, both_ways)
@@ -70,8 +66,7 @@ join-done pairs ins outs q e = grind (arith, or_cases, and_from, both_ways)
 inputs-done : (parts : RowsOfSources) (s : Spec) (ins outs : List Stream) → Gives parts s ins outs
     → IsNoLimit s → any_done outs ≡ true → all_done ins ≡ true
 inputs-done parts spec.Resize ins outs g n e = g.inputs_done e
-inputs-done parts s ins outs g n e =
-    grind (arith, source-done, one-done, join-done, both_ways, or_cases)
+inputs-done parts s ins outs g n e = grind (arith, one-done, join-done, both_ways, or_cases)
 
 pub all-inputs-done : (parts : RowsOfSources) (nodes : List DraftNode) (before after : List Stream)
     (r : PlanRuns parts nodes before after) → AllByRecursion IsOpenNode nodes → all_done after

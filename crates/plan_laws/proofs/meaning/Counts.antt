@@ -1,5 +1,5 @@
 -- A plan's nodes counted step by step: their number, their inputs, those of a kind.
-use Rattle.plan_laws.proofs.Imports.{List, Option, [], ap, arith, length, moved_nodes, refl, suc, sum_by, zero, ℕ, ◌*◌, ◌++◌, ◌+◌, ◌∷◌, ◌≡◌, ◌≤◌, AllFitDraft, Cond, Draft, DraftNode, NodePort, SortSpec, Span, Spec, lane_nodes, length-append, source_nodes, sum_by-append, sum_by-cons, wires_to, with_node, with_nodes, PlanShape, PlanJoin, SelectPlan, filter_nodes, limit_nodes, read_steps, gather_nodes, shape_nodes, plan_nodes, IsSmall, Count, count_over, each_kept, kept_for, each_input, sources_count, read_count, shape_count, plan_count}
+use Rattle.plan_laws.proofs.Imports.{List, Option, [], ap, arith, length, moved_nodes, refl, suc, sum_by, zero, ℕ, ◌*◌, ◌++◌, ◌+◌, ◌∷◌, ◌≡◌, ◌≤◌, AllFitDraft, Cond, Draft, DraftNode, NodePort, SortSpec, Span, Spec, lane_nodes, length-append, source_nodes, sum_by-append, sum_by-cons, wires_to, with_node, with_nodes, PlanShape, SelectPlan, filter_nodes, limit_nodes, shape_nodes, plan_nodes, IsSmall, Count, count_over, each_kept, kept_for, each_input, sources_count, shape_count, plan_count}
 use Rattle.plan_laws.proofs.graph.Places.{run-length}
 
 -- ---- step by step
@@ -31,18 +31,14 @@ moved-counted w ends rank [] = refl
 moved-counted w ends rank (node ∷ nodes) =
     search (arith, counted-cons, moved-counted w ends rank nodes)
 
-read-counted : (w : Count) (ends : ℕ) (join : Option PlanJoin) (lanes : ℕ)
-    → count_over w (read_steps ends join lanes) ≡ read_count w ends join
-read-counted w ends join lanes =
-    grind (arith, counted-cons, counted-append, moved-counted, sources-counted)
-
 shape-counted : (w : Count) (shape : PlanShape) (order : Option SortSpec) (lanes : ℕ)
     → count_over w (shape_nodes shape order lanes) ≡ shape_count w shape order lanes
 shape-counted w shape order lanes = grind (arith, counted-append, lanes-counted, counted-cons)
 
 -- A plan's nodes count what its steps say.
 pub plan-counted : (w : Count) (p : SelectPlan) → count_over w (plan_nodes p) ≡ plan_count w p
-plan-counted w p = grind (arith, counted-append, sources-counted, read-counted, shape-counted)
+plan-counted w p =
+    grind (arith, counted-append, sources-counted, shape-counted, counted-cons, moved-counted)
 
 -- ---- nodes and edges
 
@@ -80,16 +76,11 @@ few-filters : (f : Option Cond) (rank n : ℕ) → (count_over each_kept (filter
     × (count_over each_input (filter_nodes f rank n) ≤ n)
 few-filters f rank n = grind (arith, lanes-counted)
 
-few-gathers : (order : Option SortSpec) (lanes : ℕ) → lanes ≤ 16
-    → (count_over each_kept (gather_nodes order lanes) ≤ 17)
-    × (count_over each_input (gather_nodes order lanes) ≤ 32)
-few-gathers order lanes few = grind (arith, lanes-counted, counted-append, counted-cons)
-
 few-shape : (shape : PlanShape) (order : Option SortSpec) (lanes : ℕ) → lanes ≤ 16
     → (shape_count each_kept shape order lanes ≤ 36)
     × (shape_count each_input shape order lanes ≤ 52)
 few-shape shape order lanes few =
-    grind (arith, few-filters, few-gathers order lanes few, counted-cons)
+    grind (arith, few-filters, counted-cons, lanes-counted, counted-append)
 
 few-limits : (l : Option Span) → (count_over each_kept (limit_nodes l) ≤ 1)
     × (count_over each_input (limit_nodes l) ≤ 1)

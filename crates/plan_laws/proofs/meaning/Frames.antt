@@ -1,6 +1,6 @@
 -- Nodes behind other open ends, with higher ranks, mean what they do without them, and are as they
 -- are.
-use Rattle.plan_laws.proofs.Imports.{List, [], ap, ap₂, length, refl, ℕ, ◌++◌, ◌+◌, ◌∙◌, ◌∷◌, ◌≡◌, AllByRecursion, DraftNode, Flow, Kind, MeansNode, NodesMean, RowsOfSources, flows_of, flow_rows, given_by, if_kind, is_certain, is_needed, meant_by, moved_nodes, moved_node, rows_together, taken_by}
+use Rattle.plan_laws.proofs.Imports.{arith, List, [], ap, ap₂, length, refl, ℕ, ◌++◌, ◌+◌, ◌∙◌, ◌∷◌, ◌≡◌, AllByRecursion, DraftNode, Flow, Kind, MeansNode, NodesMean, RowsOfSources, flows_of, flow_rows, given_by, if_kind, is_certain, is_needed, meant_by, moved_nodes, moved_node, rows_together, taken_by}
 use Rattle.plan_laws.proofs.graph.Frames.{given-moved, taken-moved}
 
 -- what is true of each node of a list
@@ -26,8 +26,7 @@ pub means-moved : (parts : RowsOfSources) (ends rank : ℕ) (nodes : List DraftN
     (xs ys before after : List Flow) → before ≡ xs ++ ys → length xs ≡ ends
     → (m : NodesMean parts (moved_nodes ends rank nodes) before after)
     → MeansMoved parts ends rank nodes xs ys before after m
-means-moved parts ends rank [] xs ys before after is e m =
-    record { flows = ys; are = m ∙ is; means = refl; pulled = λ k. refl }
+means-moved parts ends rank [] xs ys before after is e m = grind arith
 means-moved parts ends rank (node ∷ nodes) xs ys before after is e m =
     let step : MeansNode parts (moved_node ends rank node) before m.0 = m.1 in
     let taken : taken_by (moved_node ends rank node) before ≡ taken_by node ys =

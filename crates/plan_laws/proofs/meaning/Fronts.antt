@@ -13,14 +13,8 @@ certain-inputs ins fs h e = grind arith
 -- where a row passed, what one of them needs is there
 pub needed-inputs : (ins : List Stream) (fs : List Flow) → AllZip IsFront ins fs
     → 0 < length (rows_together (stream_rows ins)) → any_needs fs ≡ true
-needed-inputs (i ∷ ins) (f ∷ fs) h some = grind (
-  arith,
-  cases_lt 0 (length i.rows),
-  or_left,
-  or_right,
-  needed-inputs ins fs h.1,
-  length-append i.rows (rows_together (stream_rows ins)),
-)
+needed-inputs (i ∷ ins) (f ∷ fs) h some =
+    grind (arith, cases_lt, or_left, or_right, length-append, needed-inputs ins fs h.1)
 needed-inputs ins fs h some = grind arith
 
 -- the rows that are yet to pass at some ports

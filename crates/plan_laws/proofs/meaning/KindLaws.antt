@@ -1,5 +1,4 @@
--- What each kind gave by the end of a run is the first of what it makes where nobody closes an
--- input.
+-- What each kind gave so far is the first of what it makes where nobody closes an input.
 use Rattle.plan_laws.proofs.Imports.{Bool, IsPermutation, IsSorted, List, Some, [], ap, arith, drop, false, inl, inr, is_lt, leb, length, refl, suc, take, true, zero, ℕ, ◌&&◌, ◌++◌, ◌<◌, ◌||◌, ◌∙◌, ◌∷◌, ◌≡◌, ◌≤◌, ◌⊎◌, AllByRecursion, AllZip, InOrder, IsPermutation-append_comm, IsPermutation-append_left, IsPermutation-append_right, IsPermutation-refl, IsPermutation-same, IsPermutation-trans, IsSortOf, KeyPair, Row, SortKey, Span, Spec, and_from, and_parts, append-nil, append_assoc, both_ways, cases_lt, drop-append-le, enough, eqb-true, every-append, every-none, every-permuted, joined_rows, joined_rows-append, le-leb, length-append, length-drop, length_permutation, limited, list_all, or_left, or_right, order-from_sorted, order-front, order-joined, ordered, ordered-none, ordered-order, ordered-same, row_cmp, rows-ordered, sorted-from_order, take-append-le, Flow, ManyToOne, OneToOne, SourceRows, RowsOfSources, Source, Stream, TwoToOne, all_certain, all_done, rows_together, any_done, any_needs, flow_rows, flows_of, stream_rows, GivesHeld, GivesJoined, GivesLimited, GivesMerged, GivesSource, GivesResized, GivesThrough, HoldsBack, IsMergeOf, IsFront, is_certain, is_needed}
 use Rattle.plan_laws.proofs.meaning.Fronts.{Behind, behind, certain-inputs, needed-inputs, no-rest}
 
@@ -136,14 +135,8 @@ stand-still : (c n : Bool) (outs : List Stream) → (any_done outs ≡ true → 
     → (0 < length (rows_together (stream_rows outs)) → n ≡ true)
     → AllZip IsFront outs (flows_of c n (stream_rows outs))
 stand-still c n [] h k = tt
-stand-still c n (o ∷ outs) h k = grind (
-  arith,
-  append-nil o.rows,
-  or_left,
-  or_right,
-  length-append o.rows (rows_together (stream_rows outs)),
-  stand-still c n outs,
-)
+stand-still c n (o ∷ outs) h k =
+    grind (arith, append-nil, or_left, or_right, length-append, stand-still c n outs)
 
 -- a kind that passes rows on by any output
 pub resize-completes : (ins outs : List Stream) (fs : List Flow) → GivesResized ins outs

@@ -10,16 +10,11 @@ pub record OneType (s : Spec) (ins : List Types) (made : Types) : Type 0 where
 
 -- ---- kinds
 
--- one of some types, each of which is among copies of one, is that one
-among-one : (m : ℕ) (u t : Types) (us : List Types) → AllByRecursion (IsAmong (replicate m u)) us
-    → IsAmong us t → t ≡ u
-among-one m u t us h a = grind (arith, common_steps)
-
 -- kinds that take chunks of all types and pass them on
 pub passes-type : (s : Spec) (m : ℕ) (u : Types) → TypesFit s 0 (replicate m u)
     → ((us : List Types) (t : Types) → MakesType s us t → IsAmong us t)
     → OneType s (replicate m u) u
-passes-type s m u fit makes = grind (arith, common_steps, among-one)
+passes-type s m u fit makes = grind (arith, common_steps)
 
 -- each input fits types that fit every input
 pub each-fits : (s : Spec) (i m : ℕ) (u : Types) → ((i : ℕ) → FitsInput (Some s) i u)
@@ -31,5 +26,4 @@ each-fits s i (suc m) u h = (h i, each-fits s (suc i) m u h)
 pub makes-one : (s : Spec) (m : ℕ) (u : Types) {made : Types} → ((i : ℕ) → FitsInput (Some s) i u)
     → ((us : List Types) (t : Types) → MakesType s us t → t ≡ made)
     → OneType s (replicate m u) made
-makes-one s m u fits makes =
-    record { fit = each-fits s 0 m u fits; makes = λ t us all h. makes us t h }
+makes-one s m u fits makes = grind (arith, each-fits)

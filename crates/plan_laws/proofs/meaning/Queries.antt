@@ -1,5 +1,6 @@
 -- What the plan of a checked query makes of rows is what the query selects.
-use Rattle.plan_laws.proofs.Imports.{List, None, Option, Some, [], ap, ap₂, arith, false, is_none, length, map, refl, suc, sym, take, true, zero, ℕ, ◌++◌, ◌+◌, ◌∙◌, ◌∷◌, ◌≡◌, ◌≤◌, AggCall, AggOp, AllByRecursion, Call, Checked, ColumnType, Database, Expr, ExprOf, Grouped, Grouping, IsAnswer, Plain, Row, Shape, Text, append_assoc, both_ways, call_of, count_up, filter-map, get_or_at, grouped_by, grouped_rows, groups, item_row, length-append, length-map, map-append, map-map, selected_rows, take_at, take_more, value_at, value_of, values_at, HasCalls, IsCall, IsPlanOf, call_arguments, column_items, group_spec, grouped_of, shape_of, state_call, RowsOfSources, PlanAnswers, SelectPlan, shape_rows, calls_from, is_count}
+use Rattle.plan_laws.proofs.Imports.{List, None, Option, Some, [], ap, ap₂, arith, false, is_none, length, map, refl, suc, sym, take, true, zero, ℕ, ◌++◌, ◌+◌, ◌∙◌, ◌∷◌, ◌≡◌, ◌≤◌, AggCall, AggOp, AllByRecursion, Call, Checked, ColumnType, Database, Expr, ExprOf, Grouped, Grouping, IsAnswer, Plain, Row, Shape, Text, append_assoc, both_ways, call_of, count_up, filter-map, get_or_at, grouped_by, grouped_rows, groups, item_row, length-append, length-map, map-append, map-map, selected_rows, take_at, take_more, value_at, value_of, values_at, HasCalls, IsCall, IsPlanOf, call_arguments, column_items, group_spec, grouped_of, shape_of, state_call, RowsOfSources, SelectPlan, shape_rows, calls_from, is_count, Flow}
+use Rattle.plan_laws.proofs.meaning.Plans.{PlanMade}
 use Rattle.query_model.specs.declared.query.AggOp.TheVariants as agg
 use Rattle.query_model.specs.declared.query.ExprOf.TheVariants as expr
 
@@ -103,7 +104,8 @@ pub shape-selects : (shape : Shape) (types : List ColumnType) (n : ℕ) (rows : 
 shape-selects (Plain items) types n rows h = refl
 shape-selects (Grouped g) types n rows h = search (arith, picks-kept, groups-selected)
 
--- An answer of a query's plan is an answer of the query.
+-- The rows of a flow that a query's plan makes are an answer of the query.
 pub query-answers : (q : Checked) (db : Database) (parts : RowsOfSources) (p : SelectPlan)
-    (rows : List Row) → IsPlanOf q db parts p → PlanAnswers parts p rows → IsAnswer q db rows
-query-answers q db parts p rows is a = search (arith, shape-selects)
+    (flow : Flow) (rows : List Row) → IsPlanOf q db parts p → PlanMade parts p flow
+    → rows ≡ flow.rows → IsAnswer q db rows
+query-answers q db parts p flow rows is made same = search (arith, shape-selects)

@@ -1,5 +1,5 @@
 -- A plan whose tables name few paths is small.
-use Rattle.plan_laws.proofs.Imports.{Bool, List, None, Some, [], ap, arith, false, length, nat_lt, refl, suc, sum_by, sym, ℕ, ◌∙◌, ◌∷◌, ◌≡◌, ◌≤◌, Checked, FewSources, IsSmall, PartsDecl, TableDecl, TableUse, kept_for, nat_tests, sum_by-cons, used_tables, path_count, crowded_decl, crowded, first_crowded, SourceReading, path_sources, part_sources, table_sources, select_plan}
+use Rattle.plan_laws.proofs.Imports.{Bool, List, None, Some, [], ap, arith, length, refl, suc, sum_by, sym, ℕ, ◌∙◌, ◌∷◌, ◌≡◌, ◌≤◌, Checked, FewSources, IsSmall, PartsDecl, TableDecl, TableUse, kept_for, nat_tests, sum_by-cons, used_tables, path_count, crowded_decl, crowded, first_crowded, SourceReading, path_sources, part_sources, select_plan}
 
 -- as many sources as paths
 pub paths-length : (r : SourceReading) (k : ℕ) (paths : List (List ℕ))
@@ -7,12 +7,9 @@ pub paths-length : (r : SourceReading) (k : ℕ) (paths : List (List ℕ))
 paths-length r k [] = refl
 paths-length r k (path ∷ paths) = ap suc (paths-length r (suc k) paths)
 
-not-crowded : (n : ℕ) (b : Bool) → nat_lt 32 n ≡ b → b ≡ false → n ≤ 32
-not-crowded n b e f = let off : nat_lt 32 n ≡ false = e ∙ f in grind (arith, nat_tests)
-
 -- a declaration that isn't crowded names few paths
 pub few-paths : (decl : TableDecl) → crowded_decl (Some decl) ≡ None → path_count decl.parts ≤ 32
-few-paths decl e = grind (arith, not-crowded)
+few-paths decl e = grind (arith, nat_tests)
 
 paths-kept : (r : SourceReading) (k : ℕ) (paths : List (List ℕ))
     → sum_by kept_for (path_sources r k paths) ≡ 0
@@ -21,10 +18,6 @@ paths-kept r k (path ∷ paths) = grind (arith, sum_by-cons, paths-kept r (suc k
 
 few-parts : (r : SourceReading) (d : PartsDecl) → path_count d ≤ 32 → FewSources (part_sources r d)
 few-parts r d few = grind (arith, paths-length, paths-kept)
-
-few-sources : (tables : List TableDecl) (header : Bool) (rows : ℕ) (u : TableUse)
-    → crowded tables u ≡ None → FewSources (table_sources tables header rows u)
-few-sources tables header rows u e = grind (arith, few-parts, few-paths)
 
 -- where no used table names too many paths, neither that of FROM nor that of JOIN does
 pub few-uses : (tables : List TableDecl) (u : TableUse) (us : List TableUse)
@@ -35,7 +28,7 @@ few-uses tables u us e = grind arith
 pub is-small : (q : Checked) (tables : List TableDecl) (lanes rows : ℕ) (header : Bool)
     → first_crowded tables (used_tables q) ≡ None → lanes ≤ 16
     → IsSmall (select_plan q tables lanes rows header)
-is-small q tables lanes rows header few le = grind (arith, few-uses, few-sources)
+is-small q tables lanes rows header few le = grind (arith, few-uses, few-parts, few-paths)
 
 -- a small plan, by the tables as the code reads them
 pub small-plan : (q : Checked) (tables read : List TableDecl) (lanes rows : ℕ) (header : Bool)

@@ -1,5 +1,5 @@
 -- What was laid down is a graph, and takes as many boxes of each kind as the query needs.
-use Rattle.plan_laws.proofs.Imports.{Bool, List, [], ap, arith, cond, length, map, sum_by, sym, ℕ, ◌++◌, ◌+◌, ◌∙◌, ◌∷◌, ◌≡◌, Checked, Draft, DraftNode, IsSmall, Kind, NodeForm, TableDecl, append-nil, append_assoc, count_over, length-map, map-map, query_boxes, no_draft, of_kind, plan_nodes, grown_kind, row_of, same_kind, with_node, with_nodes, Plan, boxes_needed, boxes_taken, boxes_reserved, plan_ranks, IsSoundPlan, LaysDown, select_plan}
+use Rattle.plan_laws.proofs.Imports.{Bool, List, [], ap, arith, cond, map, sum_by, sym, ℕ, ◌++◌, ◌+◌, ◌∙◌, ◌∷◌, ◌≡◌, Checked, Draft, DraftNode, IsSmall, Kind, NodeForm, TableDecl, append-nil, append_assoc, count_over, length-map, map-map, query_boxes, of_kind, plan_nodes, grown_kind, row_of, same_kind, with_node, with_nodes, Plan, boxes_needed, boxes_taken, boxes_reserved, IsSoundPlan, LaysDown, select_plan}
 use Rattle.plan_laws.proofs.meaning.PlanGraphs.{counted-same, plan-graph}
 use Rattle.plan_laws.proofs.meaning.Same.{kind-same}
 use Rattle.plan_laws.proofs.graph.Ports.{sum_by-map}
@@ -34,18 +34,12 @@ pub is-sound : (q : Checked) (tables : List TableDecl) (lanes rows : ℕ) (heade
     → IsSmall (select_plan q tables lanes rows header)
     → LaysDown (plan_nodes (select_plan q tables lanes rows header)) p
     → IsSoundPlan q tables lanes p
-is-sound q tables lanes rows header p small l =
-    let g = plan-graph (select_plan q tables lanes rows header) l.copies small l.same in
-    let drawn : Draft = with_nodes l.copies no_draft in
-    let ranks : plan_ranks p ≡ drawn.ranks = grind (arith, map-map, ranks-are) in
-    let count : length p.nodes ≡ length l.copies = grind (arith, length-map) in
-    grind (
-      arith,
-      ranks,
-      g.graph.graph,
-      needs-are q tables lanes rows header p l,
-      count,
-      nodes-kept 0 l.copies,
-      g.few,
-      g.few_wires,
-    )
+is-sound q tables lanes rows header p small l = grind (
+  arith,
+  map-map,
+  ranks-are,
+  length-map,
+  plan-graph (select_plan q tables lanes rows header) l.copies small l.same,
+  needs-are q tables lanes rows header p l,
+  nodes-kept 0 l.copies,
+)

@@ -82,8 +82,7 @@ types-append (x ∷ xs) ys a b c f g =
 
 pub typed-then : {xs ys : List DraftNode} {a b c : List Types} → Typed xs a b → Typed ys b c
     → Typed (xs ++ ys) a c
-typed-then {xs} {ys} {a} {b} {c} f g =
-    record { types = types-append xs ys a b c f.types g.types }
+typed-then {xs} {ys} {a} {b} {c} f g = grind (arith, types-append)
 
 types-moved : (ends rank : ℕ) (nodes : List DraftNode) (done a b : List Types)
     → length done ≡ ends → TypesTo nodes a b
@@ -106,5 +105,4 @@ types-moved ends rank (node ∷ nodes) done a b e f =
 pub typed-moved : {nodes : List DraftNode} {a b : List Types} (ends rank : ℕ) (done : List Types)
     → length done ≡ ends → Typed nodes a b
     → Typed (moved_nodes ends rank nodes) (done ++ a) (done ++ b)
-typed-moved {nodes} {a} {b} ends rank done e f =
-    record { types = types-moved ends rank nodes done a b e f.types }
+typed-moved {nodes} {a} {b} ends rank done e f = grind (arith, types-moved)

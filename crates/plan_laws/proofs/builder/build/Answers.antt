@@ -1,7 +1,7 @@
 use Rattle.plan_laws.proofs.graph.Building.{fit-at, nodes-more}
 use Rattle.plan_laws.proofs.graph.GraphLaws.{ranks-count}
 use Rattle.plan_laws.proofs.Imports.{Draft, FitsDraft, no_draft, with_node, with_nodes}
-use Rattle.std.proofs.Common.{ap, arith, length, length-take-le, sym, take, ◌<◌, ◌∙◌, ◌≤◌}
+use Rattle.std.proofs.Common.{ap, arith, length, length-take-le, sym, take, ◌<◌, ◌∙◌}
 use Rattle.plan_laws.proofs.builder.build.Goals as goal
 
 pub add-requires-clause-ends_there : goal.add-requires-clause-ends_there
@@ -16,13 +16,11 @@ add-requires-clause-ends_there c =
     omega (arith, le, same)
 
 pub add-requires-clause-few_nodes : goal.add-requires-clause-few_nodes
-add-requires-clause-few_nodes c =
-    let within : c.loop-node.node-index < length c.args.nodes.now = omega arith in
-    let few : length c.args.nodes.now ≤ 256 = c.requires.few_nodes in
-    let some = length-take-le c.loop-node.node-index c.args.nodes.now (omega arith) in
-    let same = ap (λ (d : Draft). length d.ranks) c.loop-node.invariant
-    ∙ ranks-count (take c.loop-node.node-index c.args.nodes.now) no_draft in
-    omega (arith, same, some, within, few)
+add-requires-clause-few_nodes c = grind (
+  arith,
+  length-take-le c.loop-node.node-index c.args.nodes.now (omega arith),
+  ranks-count (take c.loop-node.node-index c.args.nodes.now) no_draft,
+)
 
 pub loop-node-preserved : goal.loop-node-preserved
 loop-node-preserved c =
