@@ -16,24 +16,15 @@ pub(crate) fn copy_cond(alloc: Global, cond: &Cond) -> Result<Cond, Memory>
 {
     match cond {
         CondOf::Compare(op, a, b) => copy_comparison(alloc, *op, a, b),
-        CondOf::And(a, b) => {
-            let first = copy_cond(alloc, a)?;
-            let left = boxed_cond(alloc, first)?;
-            let second = copy_cond(alloc, b)?;
-            let right = boxed_cond(alloc, second)?;
-            Ok(CondOf::And(left, right))
-        }
-        CondOf::Or(a, b) => {
-            let first = copy_cond(alloc, a)?;
-            let left = boxed_cond(alloc, first)?;
-            let second = copy_cond(alloc, b)?;
-            let right = boxed_cond(alloc, second)?;
-            Ok(CondOf::Or(left, right))
-        }
-        CondOf::Not(a) => {
-            let inner = copy_cond(alloc, a)?;
-            Ok(CondOf::Not(boxed_cond(alloc, inner)?))
-        }
+        CondOf::And(a, b) => Ok(CondOf::And(
+            boxed_cond(alloc, copy_cond(alloc, a)?)?,
+            boxed_cond(alloc, copy_cond(alloc, b)?)?,
+        )),
+        CondOf::Or(a, b) => Ok(CondOf::Or(
+            boxed_cond(alloc, copy_cond(alloc, a)?)?,
+            boxed_cond(alloc, copy_cond(alloc, b)?)?,
+        )),
+        CondOf::Not(a) => Ok(CondOf::Not(boxed_cond(alloc, copy_cond(alloc, a)?)?)),
     }
 }
 

@@ -23,6 +23,7 @@ pub(crate) fn columns_of(alloc: Global, places: &[u32]) -> Result<List<Expr>, Me
 }
 
 /// The keys, and then the arguments of the calls that have one.
+#[tactic(auto, using(crate::proofs::Laying::argument_more))]
 pub(crate) fn arguments_of(
     alloc: Global,
     keys: &[u32],
@@ -47,10 +48,7 @@ fn add_argument(alloc: Global, items: &mut List<Expr>, arg: &Option<Expr>) -> Re
         None => Ok(()),
         Some(e) => {
             let copy = copy_expr(alloc, e)?;
-            match items.push(copy) {
-                Ok(()) => Ok(()),
-                Err(_) => Err(Memory),
-            }
+            items.push(copy).map_err(|_| Memory)
         }
     }
 }
@@ -83,16 +81,8 @@ fn states_of(
 {
     let mut states = Vec::new(alloc);
     for call in calls {
-        states.push(state_of(call, types))?;
+        let kind = call_type(call, types);
+        states.push(StateCall { op: call.op, kind })?;
     }
     Ok(List::from_vec(states))
-}
-
-fn state_of(call: &AggCall<u32>, types: &[ColumnType]) -> StateCall
-    ensures { result ≡ state_call types.now call.now }
-{
-    StateCall {
-        op: call.op,
-        kind: call_type(call, types),
-    }
 }

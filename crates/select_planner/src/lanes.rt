@@ -1,7 +1,7 @@
 // Blocks of nodes, added behind a list of nodes.
-ghost use Rattle.std.specs.Prelude.{◌≡◌, ◌≤◌, ◌++◌, ◌∷◌, [], IfOk, OnOk, Some};
-ghost use Rattle.plan_laws.specs.Blocks.{lane_nodes, joint_node, nodes_behind};
-ghost use Rattle.plan_laws.specs.Plans.{filter_nodes, gather_nodes, limit_nodes, resize_node, sort_nodes};
+ghost use Rattle.std.specs.Prelude.{◌≡◌, ◌≤◌, ◌++◌, ◌∷◌, [], IfOk, OnOk};
+ghost use Rattle.plan_laws.specs.Blocks.{lane_nodes, joint_node};
+ghost use Rattle.plan_laws.specs.Plans.{filter_nodes, gather_nodes, limit_nodes, sort_nodes};
 ghost use Rattle.plan_laws.specs.Same.{forms};
 ghost use Rattle.proc_api.specs.Forms.{spec_form};
 ghost use Rattle.select_planner.specs.Lanes.{lane_spec};
@@ -15,13 +15,10 @@ use query_model::query::Span;
 use std::alloc::Global;
 
 /// Adds a node.
-pub(crate) fn add_node(nodes: &mut List<DraftNode>, node: DraftNode) -> Result<(), Memory>
+fn add_node(nodes: &mut List<DraftNode>, node: DraftNode) -> Result<(), Memory>
     ensures { OnOk result (forms nodes.new ≡ forms nodes.old ++ forms (node ∷ [])) }
 {
-    match nodes.push(node) {
-        Ok(()) => Ok(()),
-        Err(_) => Err(Memory),
-    }
+    nodes.push(node).map_err(|_| Memory)
 }
 
 /// Adds a node that takes the first open ends.
@@ -45,48 +42,27 @@ pub(crate) fn add_joint(
     add_node(nodes, node)
 }
 
-/// Adds a resize of the first open ends.
-pub(crate) fn add_resize(
+/// Adds a node that gives one end, behind so many open ends.
+pub(crate) fn add_behind(
     nodes: &mut List<DraftNode>,
+    spec: Spec,
     rank: u32,
-    takes: u32,
-    gives: u32,
-) -> Result<(), Memory>
-    ensures { OnOk result (forms nodes.new
-        ≡ forms nodes.old ++ forms (resize_node rank takes gives ∷ [])) }
-{
-    add_joint(nodes, Spec::Resize, rank, takes, gives)
-}
-
-/// Adds the resize of a second block of ends into one, behind the one end of the first.
-pub(crate) fn add_second_resize(
-    nodes: &mut List<DraftNode>,
-    rank: u32,
+    offset: u32,
     takes: u32,
 ) -> Result<(), Memory>
-    ensures { OnOk result (forms nodes.new ≡ forms nodes.old
-        ++ forms (nodes_behind 1 (resize_node rank takes 1 ∷ []))) }
-{
-    let resize = DraftNode {
-        spec: Spec::Resize,
-        rank,
-        offset: 1,
-        takes,
-        gives: 1,
-    };
-    add_node(nodes, resize)
-}
-
-/// Adds the node of a lane.
-fn add_lane(nodes: &mut List<DraftNode>, spec: Spec, rank: u32, lane: u32) -> Result<(), Memory>
-    ensures { OnOk result (forms nodes.new
-        ≡ forms nodes.old ++ forms (lane_nodes spec rank lane 1)) }
+    ensures { OnOk result (forms nodes.new ≡ forms nodes.old ++ forms (record {
+      spec = spec;
+      rank = rank;
+      offset = offset;
+      takes = takes;
+      gives = 1;
+    } ∷ [])) }
 {
     let node = DraftNode {
         spec,
         rank,
-        offset: lane,
-        takes: 1,
+        offset,
+        takes,
         gives: 1,
     };
     add_node(nodes, node)
@@ -131,6 +107,7 @@ fn lane_copy(alloc: Global, step: LaneStep<'_>) -> Result<Spec, Memory>
 }
 
 /// Adds the nodes of a step, one in each lane.
+#[tactic(auto, using(crate::proofs::Laying::lane_more))]
 pub(crate) fn add_lanes(
     alloc: Global,
     nodes: &mut List<DraftNode>,
@@ -143,7 +120,7 @@ pub(crate) fn add_lanes(
 {
     for lane in 0..lanes {
         let copy = lane_copy(alloc, step)?;
-        add_lane(nodes, copy, rank, lane)?;
+        add_behind(nodes, copy, rank, lane, 1)?;
     }
     Ok(())
 }
@@ -159,24 +136,12 @@ pub(crate) fn add_gather(
         ≡ forms nodes.old ++ forms (gather_nodes order lanes)) }
 {
     match order {
-        None => add_resize(nodes, 12, lanes, 1),
-        Some(order) => add_ordered(alloc, nodes, order, lanes),
+        None => add_joint(nodes, Spec::Resize, 12, lanes, 1),
+        Some(order) => {
+            add_lanes(alloc, nodes, LaneStep::Sort(&order), 11, lanes)?;
+            add_joint(nodes, Spec::MergeSorted(order), 12, lanes, 1)
+        }
     }
-}
-
-/// Adds the sorts of the lanes and the merge behind them.
-fn add_ordered(
-    alloc: Global,
-    nodes: &mut List<DraftNode>,
-    order: SortSpec,
-    lanes: u32,
-) -> Result<(), Memory>
-    ensures { OnOk result (forms nodes.new
-        ≡ forms nodes.old ++ forms (gather_nodes (Some order) lanes)) }
-{
-    add_lanes(alloc, nodes, LaneStep::Sort(&order), 11, lanes)?;
-    add_joint(nodes, Spec::MergeSorted(order), 12, lanes, 1)?;
-    Ok(())
 }
 
 /// Adds the sort of all groups, where there is an order.

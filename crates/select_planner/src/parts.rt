@@ -8,7 +8,7 @@ ghost use Rattle.plan_laws.specs.Refusals.{crowded, crowded_decl, first_crowded,
 ghost use Rattle.plan_laws.specs.Steps.{join_spec, part_sources, part_spec, path_sources, source_types, table_reading, table_sources, used_types};
 ghost use Rattle.proc_api.specs.KindRows.{grown_kind};
 
-use crate::lanes::add_node;
+use crate::lanes::add_behind;
 use chunk_data::{Bytes, ColumnType, List, Memory};
 use plan_laws::{DraftNode, PlanRefusal};
 use query_model::checked::{Checked, CheckedJoin, TableUse};
@@ -76,6 +76,7 @@ fn paths_named(parts: &PartsDecl) -> usize
 }
 
 /// Adds the sources of a used table behind so many open ends, and says how many there are.
+#[tactic(auto, using(crate::proofs::Laying::undeclared))]
 pub(crate) fn add_sources(
     alloc: Global,
     nodes: &mut List<DraftNode>,
@@ -94,7 +95,7 @@ pub(crate) fn add_sources(
 {
     match table {
         TableUse::Numbers(n) => {
-            add_source(nodes, Spec::Numbers(n, reading.rows), reading.place)?;
+            add_behind(nodes, Spec::Numbers(n, reading.rows), 1, reading.place, 0)?;
             Ok(1)
         }
         TableUse::Declared(t) => match tables.get(t as usize) {
@@ -104,21 +105,7 @@ pub(crate) fn add_sources(
     }
 }
 
-/// Adds a source behind so many.
-fn add_source(nodes: &mut List<DraftNode>, spec: Spec, place: u32) -> Result<(), Memory>
-    ensures { OnOk result (forms nodes.new
-        ≡ forms nodes.old ++ forms (source_nodes place (spec ∷ []))) }
-{
-    let node = DraftNode {
-        spec,
-        rank: 1,
-        offset: place,
-        takes: 0,
-        gives: 1,
-    };
-    add_node(nodes, node)
-}
-
+#[tactic(auto, using(crate::proofs::Laying::parts_count))]
 fn add_declared(
     alloc: Global,
     nodes: &mut List<DraftNode>,
@@ -142,12 +129,13 @@ fn add_declared(
         }
         PartsDecl::ListFile(path) => {
             let list = part_spec(alloc, table, decl, 0, path, reading)?;
-            add_source(nodes, Spec::List(list), reading.place)?;
+            add_behind(nodes, Spec::List(list), 1, reading.place, 0)?;
             Ok(1)
         }
     }
 }
 
+#[tactic(auto, using(crate::proofs::Laying::path_more))]
 fn add_paths(
     alloc: Global,
     nodes: &mut List<DraftNode>,
@@ -163,7 +151,7 @@ fn add_paths(
 {
     for i in 0..paths.len() {
         let part = part_spec(alloc, table, decl, i as u32 + 1, &paths[i], reading)?;
-        add_source(nodes, Spec::Csv(part), reading.place + i as u32)?;
+        add_behind(nodes, Spec::Csv(part), 1, reading.place + i as u32, 0)?;
     }
     Ok(())
 }
@@ -172,11 +160,7 @@ fn add_paths(
 pub(crate) fn listed_kinds(alloc: Global) -> Result<List<Kind>, Memory>
     ensures { IfOk result (λ kinds. kinds ≡ replicate 32 grown_kind) }
 {
-    let mut kinds = Vec::new(alloc);
-    for _part in 0..MAX_PARTS {
-        kinds.push(Kind::Csv)?;
-    }
-    Ok(List::from_vec(kinds))
+    Ok(List::from_vec(vec![in alloc; Kind::Csv; MAX_PARTS as usize]?))
 }
 
 /// A file of the table, read as this part of it; a list is part 0.
@@ -235,20 +219,11 @@ pub(crate) fn source_types(
         None => Ok(left),
         Some(join) => {
             let right = used_types(alloc, join.table, tables)?;
-            both_types(left, right.as_slice())
+            let mut types = left.into_vec();
+            types.extend_from_slice(right.as_slice())?;
+            Ok(List::from_vec(types))
         }
     }
-}
-
-/// The types of two tables, one behind the other.
-fn both_types(left: List<ColumnType>, right: &[ColumnType]) -> Result<List<ColumnType>, Memory>
-    ensures { IfOk result (λ types. types ≡ left ++ right.now) }
-{
-    let mut types = left.into_vec();
-    for column in right {
-        types.push(*column)?;
-    }
-    Ok(List::from_vec(types))
 }
 
 /// The types of a used table's columns.
@@ -260,11 +235,7 @@ fn used_types(
     ensures { IfOk result (λ types. types ≡ used_types tables.now table) }
 {
     match table {
-        TableUse::Numbers(_) => {
-            let mut types = Vec::new(alloc);
-            types.push(ColumnType::UInt64)?;
-            Ok(List::from_vec(types))
-        }
+        TableUse::Numbers(_) => Ok(List::from_vec(vec![in alloc; ColumnType::UInt64]?)),
         TableUse::Declared(t) => match tables.get(t as usize) {
             Some(decl) => types_of(alloc, decl.schema.columns.as_slice()),
             None => Ok(List::new(alloc)),

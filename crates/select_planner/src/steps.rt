@@ -3,19 +3,17 @@ ghost use Rattle.std.specs.Prelude.{◌≡◌, ◌+◌, ◌≤◌, ◌++◌, ◌
 ghost use Rattle.query_model.specs.Names.{shape_types, used_tables};
 ghost use Rattle.query_model.specs.declared.checked.Shape.TheVariants.{Grouped};
 ghost use Rattle.plan_laws.specs.Drafts.{AllFitDraft, no_draft, with_nodes};
-ghost use Rattle.plan_laws.specs.Blocks.{nodes_behind, source_nodes};
 ghost use Rattle.plan_laws.specs.Same.{forms};
 ghost use Rattle.plan_laws.specs.Plans.{plan_nodes, read_nodes, shape_nodes};
 ghost use Rattle.plan_laws.specs.Queries.{shape_of};
-ghost use Rattle.plan_laws.specs.Refusals.{crowded, first_crowded, IsDuePlanRefusal};
+ghost use Rattle.plan_laws.specs.Refusals.{first_crowded, IsDuePlanRefusal};
 ghost use Rattle.plan_laws.specs.Shapes.{kept_at, plan_node_of, reserves_from, IsSoundPlan, LaysDown};
 ghost use Rattle.plan_laws.specs.Boxes.{reserved_nodes};
 ghost use Rattle.plan_laws.specs.Steps.{join_of, order_of, select_plan, source_types, table_sources};
 
 use crate::groups::{arguments_of, columns_of, group_spec};
 use crate::lanes::{
-    LaneStep, add_filters, add_gather, add_joint, add_lanes, add_limit, add_resize,
-    add_second_resize, add_sort,
+    LaneStep, add_behind, add_filters, add_gather, add_joint, add_lanes, add_limit, add_sort,
 };
 use crate::parts::{
     MAX_PARTS, SourceReading, add_sources, check_tables, join_spec, listed_kinds, source_types,
@@ -23,7 +21,7 @@ use crate::parts::{
 use chunk_data::{ColumnType, List, Memory};
 use plan_laws::{DraftBuilder, DraftNode, Plan, PlanNode, PlanRefusal, PlanReserve, build};
 use proc_api::kind_row;
-use query_model::checked::{Checked, Expr, Grouping, Shape, TableUse};
+use query_model::checked::{Checked, Expr, Grouping, Shape};
 use query_model::processor_spec::{SortSpec, Spec};
 use query_model::query::TableDecl;
 use query_model::typing::shape_types;
@@ -64,6 +62,7 @@ pub fn plan(
 }
 
 /// Adds the nodes, step by step.
+#[tactic(auto, using(crate::proofs::Laying::one_behind))]
 fn lay_steps(
     alloc: Global,
     nodes: &mut List<DraftNode>,
@@ -86,7 +85,9 @@ fn lay_steps(
     add_joint(nodes, Spec::Collect, 14, 1, 0)
 }
 
-/// Adds what reads the table of FROM into the lanes, or its join with a second table.
+/// Adds what reads the table of FROM into the lanes, or its join with a second table, whose sources
+/// stand behind the ends of FROM's.
+#[tactic(auto, using(crate::proofs::Laying::sources_behind, crate::proofs::Laying::one_behind))]
 fn add_read(
     alloc: Global,
     nodes: &mut List<DraftNode>,
@@ -103,41 +104,21 @@ fn add_read(
 {
     let ends = add_sources(alloc, nodes, query.from, tables, reading)?;
     match &query.join {
-        None => add_resize(nodes, 2, ends, lanes),
+        None => add_joint(nodes, Spec::Resize, 2, ends, lanes),
         Some(join) => {
             let second = SourceReading {
                 header: reading.header,
                 rows: reading.rows,
                 place: ends,
             };
-            let joined = add_second_sources(alloc, nodes, join.table, tables, second)?;
-            add_resize(nodes, 2, ends, 1)?;
-            add_second_resize(nodes, 2, joined)?;
+            let joined = add_sources(alloc, nodes, join.table, tables, second)?;
+            add_joint(nodes, Spec::Resize, 2, ends, 1)?;
+            add_behind(nodes, Spec::Resize, 2, 1, joined)?;
             let spec = join_spec(alloc, query.from, join, tables, reading.rows)?;
             add_joint(nodes, Spec::HashJoin(spec), 3, 2, 1)?;
-            add_resize(nodes, 4, 1, lanes)
+            add_joint(nodes, Spec::Resize, 4, 1, lanes)
         }
     }
-}
-
-/// Adds the sources of the second table, a block behind the ends of FROM's.
-fn add_second_sources(
-    alloc: Global,
-    nodes: &mut List<DraftNode>,
-    table: TableUse,
-    tables: &[TableDecl],
-    reading: SourceReading,
-) -> Result<u32, Memory>
-    requires few_parts { crowded tables.now table ≡ None }
-    requires place { reading.place ≤ 32 }
-    ensures nodes { OnOk result (forms nodes.new ≡ forms nodes.old
-        ++ forms (nodes_behind reading.place (source_nodes 0
-        (table_sources tables.now reading.header reading.rows table)))) }
-    ensures few { IfOk result (λ n. n ≤ 32) }
-    ensures count { IfOk result
-        (λ n. n ≡ length (table_sources tables.now reading.header reading.rows table)) }
-{
-    add_sources(alloc, nodes, table, tables, reading)
 }
 
 /// Adds what makes the output rows of the filtered ones, in their order, in one stream.
@@ -239,6 +220,7 @@ fn plan_of(alloc: Global, nodes: List<DraftNode>) -> Result<Plan, Memory>
 }
 
 /// What is kept for the lists of parts among the nodes.
+#[tactic(auto, using(crate::proofs::Laying::kept_more))]
 fn reserves_of(alloc: Global, nodes: &[DraftNode]) -> Result<List<PlanReserve>, Memory>
     requires { length nodes.now ≤ 256 }
     ensures { IfOk result (λ reserves. reserves ≡ reserves_from 0 nodes.now) }
@@ -268,19 +250,15 @@ fn keep_for(
         kinds,
         edges: MAX_PARTS,
     };
-    match reserves.push(reserve) {
-        Ok(()) => Ok(()),
-        Err(_) => Err(Memory),
-    }
+    reserves.push(reserve).map_err(|_| Memory)
 }
 
 fn nodes_of(alloc: Global, nodes: List<DraftNode>) -> Result<List<PlanNode>, Memory>
     ensures { IfOk result (λ l. l ≡ map plan_node_of nodes) }
 {
-    let mut planned = Vec::new(alloc);
-    for node in nodes.into_vec() {
-        let DraftNode { spec, rank, .. } = node;
-        planned.push(PlanNode { spec, rank })?;
-    }
-    Ok(List::from_vec(planned))
+    let planned = nodes
+        .into_vec()
+        .into_iter()
+        .map(|DraftNode { spec, rank, .. }| PlanNode { spec, rank });
+    Ok(List::from_vec(planned.collect(alloc)?))
 }

@@ -6,6 +6,7 @@ use plan_laws::{Plan, PlanNode, PlanReserve};
 use query_model::processor_spec::Kind;
 
 /// How many boxes of the kind the plan uses, the reserved ones included.
+#[tactic(auto, using(crate::proofs::Laying::few_boxes))]
 pub fn needs(plan: &Plan, kind: Kind) -> usize
     ensures { result ≡ boxes_needed plan.now kind }
 {
@@ -27,10 +28,6 @@ fn taken(nodes: &[PlanNode], kind: Kind) -> usize
 fn reserved(reserve: &PlanReserve, kind: Kind) -> usize
     ensures { result ≡ boxes_reserved kind reserve.now }
 {
-    reserve
-        .kinds
-        .as_slice()
-        .iter()
-        .filter(|k| **k == kind)
-        .count()
+    let kinds = reserve.kinds.as_slice();
+    kinds.iter().filter(|k| **k == kind).count()
 }
