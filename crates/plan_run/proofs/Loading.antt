@@ -1,5 +1,5 @@
 -- Laws of loading and unloading boxes one after another.
-use Rattle.plan_run.proofs.Imports.{All, All-from_get_or, All-get_or, All-head, All-tail, AreStarting, Changes, Changes-map_set, GraphForm, IsStill, KeepsBehind, Kind, LoadsFirst, Spec, append_assoc, box_at, cases_eq, cases_lt, drop-drop, ext_get_or, get_or-drop, get_or-map, get_or_append_left, get_or_default, kind_of, kinds_in, kinds_of, kinds_taken, length-map, no_box, no_spec, one-more, spec_at, BoxPicture, EachBox, FirstBoxes, IsBlank, List, Loads, SameBox, SameCounts, Unloads, [], ap, arith, drop, get_or, length, length-append, map, set, subst, sym, ℕ, ◌++◌, ◌+◌, ◌<◌, ◌∙◌, ◌∷◌, ◌≡◌}
+use Rattle.plan_run.proofs.Imports.{All, All-from_get_or, All-get_or, AreStarting, Changes, Changes-map_set, GraphForm, IsStill, KeepsBehind, Kind, LoadsFirst, Spec, box_at, cases_eq, cases_lt, drop-drop, ext_get_or, get_or-drop, get_or-map, get_or_append_left, get_or_default, kind_of, kinds_in, kinds_of, kinds_taken, length-map, no_box, no_spec, spec_at, BoxPicture, EachBox, FirstBoxes, IsBlank, List, Loads, SameBox, SameCounts, Unloads, [], ap, arith, drop, get_or, length, length-append, map, set, subst, sym, ℕ, ◌++◌, ◌+◌, ◌<◌, ◌∙◌, ◌∷◌, ◌≡◌}
 
 pub still : (p : BoxPicture) → IsStill p p
 still p = grind arith
@@ -29,14 +29,7 @@ pub one-changed : (k : ℕ) (R : ℕ → BoxPicture → BoxPicture → Type 0)
     (before mid after : List BoxPicture) → FirstBoxes k R before mid
     → Changes no_box k (R k) mid after → FirstBoxes (k + 1) R before after
 unfolding box_at
-one-changed k R before mid after f next = record {
-  count = next.len ∙ f.count;
-  first = one-more (λ n. R n (box_at before n) (box_at after n)) k
-      (λ n lt. subst (R n (box_at before n)) (sym (next.others n (λ e. omega (arith, lt, e))))
-      (f.first n lt))
-      (subst (λ p. R k p (box_at after k)) (f.others k (omega arith)) next.here);
-  others = λ n le. next.others n (λ e. omega (arith, le, e)) ∙ f.others n (omega (arith, le));
-}
+one-changed k R before mid after f next = grind (arith, cases_eq, f.first, f.others, next.others)
 
 -- all boxes were called
 pub all-changed : (k : ℕ) (R : BoxPicture → BoxPicture → Type 0) (before after : List BoxPicture)
@@ -145,27 +138,10 @@ pub in-map : {A : Type 0} (f : A → BoxPicture) (xs : List A) (i : ℕ) → i <
     → i < length (map f xs)
 in-map f xs i lt = grind (arith, map-len)
 
-pub front-all : {A : Type 0} (P : BoxPicture → Type 0) (f : A → BoxPicture) (xs : List A) (x : A)
-    → x ≡ get_or xs 0 x → 0 < length xs → All P (map f xs) → P (f x)
-front-all P f [] x e lt all = absurd (omega (arith, lt))
-front-all P f (y ∷ xs) x e lt all = subst (λ z. P (f z)) (sym e) (All-head P (f y) (map f xs) all)
-
-pub rest-all : {A : Type 0} (P : BoxPicture → Type 0) (f : A → BoxPicture) (xs ys : List A)
-    → ys ≡ drop 1 xs → All P (map f xs) → All P (map f ys)
-rest-all P f [] ys e all = subst (λ l. All P (map f l)) (sym e) all
-rest-all P f (x ∷ xs) ys e all = subst (λ l. All P (map f l)) (sym e)
-    (All-tail P (f x) (map f xs) all)
-
-pub box-read : {A : Type 0} (f : A → BoxPicture) (xs : List A) (n : ℕ) (x : A) → n < length xs
+pub box_read : {A : Type 0} (f : A → BoxPicture) (xs : List A) (n : ℕ) (x : A) → n < length xs
     → x ≡ get_or xs n x → box_at (map f xs) n ≡ f x
 unfolding box_at
-box-read f xs n x lt e = get_or-map f xs n x no_box lt ∙ ap f (sym e)
-
--- the front of one list went behind another
-pub one-over : {A : Type 0} (rack boxes rack' boxes' : List A) (b : A) → b ≡ get_or boxes 0 b
-    → 0 < length boxes → rack' ≡ rack ++ b ∷ [] → boxes' ≡ drop 1 boxes
-    → rack' ++ boxes' ≡ rack ++ boxes
-one-over rack boxes rack' boxes' b read lt r e = grind (arith, append_assoc)
+box_read f xs n x lt e = grind (arith, get_or-map)
 
 -- one box alone was called, and is still the same
 pub still-at : {A : Type 0} (f : A → BoxPicture) (xs : List A) (n : ℕ) (x y : A) → n < length xs

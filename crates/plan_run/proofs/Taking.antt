@@ -1,5 +1,5 @@
 -- Laws of what is taken from a rack, and what is left.
-use Rattle.plan_run.proofs.Imports.{All, All-cons, All-head, All-nil, All-tail, BoxPicture, HasStock, Kind, Spec, TakesOut, count_by, count_by-cons, eq-eqb, eqb-true, first_box_of, get_or-append-add, get_or-map, get_or_append_left, get_or_default, is_of, kind_of, kind_place, kinds_in, kinds_taken, left_after, length-map, map_push, same_kind, take_more, taken_for, without_first_box, Bool, List, [], ap, ap₂, arith, cond, false, get_or, kind-at, length, length-append, map, refl, subst, suc, sym, take, true, zero, ℕ, ◌++◌, ◌+◌, ◌<◌, ◌∙◌, ◌∷◌, ◌≡◌, ◌≤◌}
+use Rattle.plan_run.proofs.Imports.{All, All-cons, All-head, All-nil, All-tail, BoxPicture, HasStock, Kind, Spec, TakesOut, count_by, count_by-cons, eq-eqb, eqb-true, first_box_of, get_or-append-add, get_or-map, get_or_append_left, is_of, kind_of, kind_place, kinds_in, kinds_taken, left_after, length-map, map_push, same_kind, take_more, taken_for, without_first_box, Bool, List, [], ap, ap₂, arith, cond, false, get_or, kind-at, length, length-append, map, refl, suc, sym, take, true, zero, ℕ, ◌++◌, ◌+◌, ◌<◌, ◌∙◌, ◌∷◌, ◌≡◌, ◌≤◌}
 
 -- ---- kinds
 
@@ -20,21 +20,15 @@ first-at k [] b back it none = search (arith)
 first-at k (p ∷ front) b back it none =
     let parts = none-first (is_of k p) (count_by (is_of k) front)
     (sym (count_by-cons (is_of k) p front) ∙ none) in
-    let rest = first-at k front b back it parts.1 in (
-      ap (λ t. cond t p (first_box_of k (front ++ b ∷ back))) parts.0 ∙ rest.0,
-      ap (λ t. cond t (front ++ b ∷ back) (p ∷ without_first_box k (front ++ b ∷ back))) parts.0
-          ∙ ap (λ l. p ∷ l) rest.1,
-    )
+    let rest = first-at k front b back it parts.1 in
+    grind (arith, parts, rest)
 
 -- what a rack's `take` gives and leaves
 pub takes-first : (k : Kind) (before after : List BoxPicture) (b : BoxPicture)
     → TakesOut k before after b → (first_box_of k before ≡ b) × (without_first_box k before ≡ after)
 takes-first k before after b t =
-    let at = first-at k t.front b t.back t.of_kind t.first in (
-      ap (first_box_of k) t.before_is ∙ at.0,
-      ap (without_first_box k) t.before_is ∙ at.1
-          ∙ sym t.after_is,
-    )
+    let at = first-at k t.front b t.back t.of_kind t.first in
+    grind (arith, at)
 
 -- where there is a box of the kind
 
@@ -45,13 +39,9 @@ some-rest k p boxes e some = grind (arith, count_by-cons)
 first-all : (P : BoxPicture → Type 0) (k : Kind) (boxes : List BoxPicture)
     → 0 < count_by (is_of k) boxes → All P boxes → P (first_box_of k boxes)
 first-all P k [] some all = absurd (omega (arith, some))
-first-all P k (p ∷ boxes) some all = choose (is_of k p) refl
-    (λ later. first-all P k boxes later (All-tail P p boxes all))
-  where
-    choose : (t : Bool) → is_of k p ≡ t → (0 < count_by (is_of k) boxes → P (first_box_of k boxes))
-        → P (cond t p (first_box_of k boxes))
-    choose true e rest = All-head P p boxes all
-    choose false e rest = rest (some-rest k p boxes e some)
+first-all P k (p ∷ boxes) some all =
+    let rest = first-all P k boxes in
+    grind (arith, some-rest k p boxes, All-head P p boxes all, All-tail P p boxes all, rest)
 
 first-of-kind : (k : Kind) (boxes : List BoxPicture) → 0 < count_by (is_of k) boxes
     → is_of k (first_box_of k boxes) ≡ true
@@ -67,13 +57,9 @@ first-of-kind k (p ∷ boxes) some = choose (is_of k p) refl (first-of-kind k bo
 without-all : (P : BoxPicture → Type 0) (k : Kind) (boxes : List BoxPicture) → All P boxes
     → All P (without_first_box k boxes)
 without-all P k [] all = All-nil P
-without-all P k (p ∷ boxes) all = choose (is_of k p)
-    (without-all P k boxes (All-tail P p boxes all))
-  where
-    choose : (t : Bool) → All P (without_first_box k boxes)
-        → All P (cond t boxes (p ∷ without_first_box k boxes))
-    choose true rest = All-tail P p boxes all
-    choose false rest = All-cons P p (without_first_box k boxes) (All-head P p boxes all) rest
+without-all P k (p ∷ boxes) all =
+    let rest = without-all P k boxes (All-tail P p boxes all) in
+    grind (arith, All-head P p boxes all, All-tail P p boxes all, All-cons P p, rest)
 
 -- ---- stock
 
@@ -175,15 +161,6 @@ pub left-more : (kinds : List Kind) (n : ℕ) (k : Kind) (boxes left : List BoxP
     → without_first_box k left ≡ left_after (take (n + 1) kinds) boxes
 left-more kinds n k boxes left more l = grind (arith, left-snoc)
 
--- at the same place
-pub taken-same : (kinds : List Kind) (n m : ℕ) (boxes taken : List BoxPicture) → n ≡ m
-    → taken ≡ taken_for (take n kinds) boxes → taken ≡ taken_for (take m kinds) boxes
-taken-same kinds n m boxes taken e h = grind arith
-
-pub left-same : (kinds : List Kind) (n m : ℕ) (boxes left : List BoxPicture) → n ≡ m
-    → left ≡ left_after (take n kinds) boxes → left ≡ left_after (take m kinds) boxes
-left-same kinds n m boxes left e h = grind arith
-
 -- ---- the next box, as the code takes it
 
 pub pushed-first : {A : Type 0} (f : A → BoxPicture) (k : Kind) (before after : List BoxPicture)
@@ -204,27 +181,21 @@ kinds-length specs kept = grind (arith, length-append, length-map)
 -- the kind that is asked for next, where it is that of the next node
 pub node-kind : (specs : List Spec) (kept : List Kind) (i : ℕ) (s : Spec) (k : Kind)
     → s ≡ get_or specs i s → i < length specs → k ≡ kind_of s
-    → get_or (kinds_taken specs kept) i k ≡ k
+    → k ≡ get_or (kinds_taken specs kept) i k
 node-kind specs kept i s k read lt e = grind (arith, get_or_append_left, length-map, get_or-map)
 
 -- or the next that is kept
-pub kept-kind : (specs : List Spec) (kept : List Kind) (i : ℕ) (k : Kind) → k ≡ get_or kept i k
-    → get_or (kinds_taken specs kept) (length specs + i) k ≡ k
-kept-kind specs kept i k read = grind (arith, length-map, get_or-append-add)
+pub kept-kind : (specs : List Spec) (kept : List Kind) (i j : ℕ) (k : Kind) → k ≡ get_or kept j k
+    → i ≡ length specs + j → k ≡ get_or (kinds_taken specs kept) i k
+kept-kind specs kept i j k read at = grind (arith, length-map, get_or-append-add)
 
-pub kept-read : (specs : List Spec) (kept seen : List Kind) (i : ℕ) (past : Kind) → seen ≡ kept
-    → i < length kept → get_or (kinds_taken specs kept) (length specs + i) (get_or seen i past)
-    ≡ get_or seen i past
-kept-read specs kept seen i past e lt =
-    kept-kind specs kept i _ (grind (arith, get_or_default))
+pub ruleset places = (node-kind, kept-kind)
 
 pub next-there : (kinds : List Kind) (i : ℕ) (k : Kind) (before left : List BoxPicture)
     → HasStock kinds before → left ≡ left_after (take i kinds) before → i < length kinds
     → get_or kinds i k ≡ k → 0 < count_by (is_of k) left
 next-there kinds i k before left stock l lt e =
-    subst (λ boxes. 0 < count_by (is_of k) boxes) (sym l)
-    (subst (λ j. 0 < count_by (is_of j) (left_after (take i kinds) before)) e
-    (still-there kinds i k before stock lt))
+    grind (arith, still-there kinds i k before stock lt)
 
 pub more-kinds : (kinds : List Kind) (i : ℕ) (k : Kind) → i < length kinds
     → get_or kinds i k ≡ k → take (i + 1) kinds ≡ take i kinds ++ k ∷ []

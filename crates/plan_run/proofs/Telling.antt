@@ -1,5 +1,5 @@
 -- What a run of a plan tells, from the steps that it is made of.
-use Rattle.plan_run.proofs.Imports.{All, All-append, AreRun, AreStarting, Begun, BoxPicture, EachBox, Err, GivenBack, GivesBack, GivesBox, GivesPlan, Global, GraphBegins, GraphForm, HasNoReader, HasStock, IsBlank, IsBlankAgain, IsBorn, IsLater, IsSourceKind, IsStill, KeepsBehind, Kind, LeavesStill, List, Loads, LoadsFirst, None, Ok, PlanFault, PlanFaultHolds, PutsBehind, RanKept, RanWith, ReadsByKind, Result, RunsPlan, Some, Spec, StaysBox, Table, Unloads, Vec, arith, box_at, cases_lt, kinds_in, kinds_taken, left_after, length, lt-leb, raised, spec_at, subst, sym, taken_at, taken_for, ℕ, ◌+◌, ◌<◌, ◌≡◌, ◌≤◌, ◌⊎◌}
+use Rattle.plan_run.proofs.Imports.{All, All-append, AreRun, AreStarting, Begun, BoxPicture, EachBox, Err, GivenBack, GivesBack, GivesBox, GivesPlan, Global, GraphBegins, GraphForm, HasStock, IsBlank, IsBlankAgain, IsBorn, IsLater, IsStill, KeepsBehind, Kind, LeavesStill, List, Loads, LoadsFirst, None, Ok, PlanFault, PlanFaultHolds, PutsBehind, RanKept, RanWith, Result, RunsPlan, Some, Spec, StaysBox, Table, Unloads, Vec, arith, box_at, cases_lt, inl, inr, kinds_in, kinds_taken, left_after, length, lt-leb, raised, spec_at, subst, sym, taken_at, taken_for, ℕ, ◌+◌, ◌<◌, ◌≡◌, ◌≤◌, ◌⊎◌}
 use Rattle.plan_run.specs.declared.run.PlanFault.TheVariants as end
 use Rattle.plan_run.proofs.Loading.{all-at, at-all, still}
 use Rattle.plan_run.proofs.Taking.{kinds-length, left-all, taken-all, taken-length}
@@ -40,7 +40,7 @@ pub ran-kept : (p q : BoxPicture) → p.spec ≡ None → GivesBox p q → RanKe
 ran-kept p q blank g = grind (arith, ran-box)
 
 ran-later : (s : Spec) (p q : BoxPicture) → RanWith s p q → IsLater p q
-ran-later s p q ran = grind arith
+ran-later s p q ran = ran.later
 
 kept-later : (p q : BoxPicture) → RanKept p q → IsLater p q
 kept-later p q h = grind (arith, same-later, ran-later)
@@ -106,7 +106,7 @@ back-blank kinds before after blank g =
     (left-all IsBlank kinds before blank) (all-at IsBlank back.given
     (λ n lt. (back.boxes.each n (subst (λ k. n < k) back.boxes.count lt)).blank)))
 
-module _ (specs : List Spec) (kept : List Kind) (before after ended : List BoxPicture)
+module _ {specs : List Spec} {kept : List Kind} {before after ended : List BoxPicture}
     (run : RunsPlan specs kept before after ended) where
   abbrev kinds : List Kind
   kinds = kinds_taken specs kept
@@ -117,7 +117,11 @@ module _ (specs : List Spec) (kept : List Kind) (before after ended : List BoxPi
   -- each box that a run of a plan left is that which was taken
   pub ended-later : (n : ℕ) → n < length ended
       → IsLater (taken_at kinds before n) (box_at ended n)
-  ended-later n lt = grind (arith, cases_lt, ran-later, kept-later)
+  ended-later n lt = elim (cases_lt n (length specs)) [
+    | inl less ↦ (run.boxes.ran n less).later
+    | inr past ↦ kept-later _ _
+        (run.boxes.ran_kept n past (subst (λ k. n < k) run.boxes.count lt))
+  ]
 
   -- and it was given back
   pub runs-give-back : HasStock kinds before → GivesBack kinds before after
@@ -131,11 +135,6 @@ module _ (specs : List Spec) (kept : List Kind) (before after ended : List BoxPi
       (taken-all P kinds before stock all)
 
 -- ---- the ends
-
--- what a call of `kind` says of a box's reader
-pub reads-at : (at p : BoxPicture) (k : Kind) → at ≡ p → k ≡ p.kind → IsSourceKind k ⊎ HasNoReader p
-    → ReadsByKind at
-reads-at at p k same is h = grind arith
 
 -- what is said of a run by the boxes that it left is said by what they are besides
 module _ (R S : List BoxPicture → Type 0) (by : (ended : List BoxPicture) → R ended → S ended)

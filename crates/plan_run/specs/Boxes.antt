@@ -1,7 +1,6 @@
 -- What calls make of a box, and of a list of boxes in order, over their pictures before and after.
 use Rattle.std.specs.Prelude.{◌≡◌, ◌⊎◌, ℕ, ◌+◌, ◌<◌, ◌≤◌, ◌++◌, List, length, slice_index_or, Some}
-use Rattle.query_model.specs.Kinds.{kind_of}
-use Rattle.query_model.specs.declared.processor_spec.Spec.{Spec}
+use Rattle.proc_api.specs.Prelude.{Spec, kind_of}
 use Rattle.proc_api.specs.Names.{BoxPicture, IsBlank, Loads, SameCounts, no_spec, raised}
 use Rattle.exec_laws.specs.Names.{box_at}
 
@@ -34,13 +33,9 @@ pub record IsBlankAgain (p q : BoxPicture) : Type 0 where
 -- A blank box that was loaded with the spec and run, as the run left it: the same box, whose counts
 -- since then are what they rose.
 pub record RanWith (s : Spec) (p q : BoxPicture) : Type 0 where
-  pub kind : q.kind ≡ p.kind
-  pub lawful : q.lawful ≡ p.lawful
-  pub files : q.files ≡ p.files
+  pub later : IsLater p q
   pub of_kind : kind_of s ≡ p.kind
   pub spec : q.spec ≡ Some s
-  pub faults : p.faults ≤ q.faults
-  pub pendings : p.pendings ≤ q.pendings
   pub faults_since : raised p.faults q.notes.faults ≤ q.faults
   pub pendings_since : raised p.pendings q.notes.pendings ≤ q.pendings
   pub pulled : q.pulled ≡ p.pulled + q.notes.pulled

@@ -1,15 +1,11 @@
 -- What a run of a plan tells: how it ended, of which boxes, and what the rack has afterwards.
 use Rattle.std.specs.Prelude.{All, IfErr, IfOk, Result, Vec, ◌≡◌, ◌⊎◌, ℕ, ◌+◌, ◌-◌, ◌<◌, ◌≤◌, ◌++◌, List, length, map, nat_le, ⊤}
 use Rattle.std.specs.declared.alloc.Global.{Global}
-use Rattle.chunk_data.specs.Values.{Table}
-use Rattle.query_model.specs.Kinds.{kind_of}
-use Rattle.query_model.specs.declared.processor_spec.Spec.{Spec}
-use Rattle.query_model.specs.declared.processor_spec.Kind.{Kind}
-use Rattle.proc_api.specs.Graphs.{IsGraph}
+use Rattle.proc_api.specs.Prelude.{Kind, Spec, Table, kind_of}
 use Rattle.proc_api.specs.Reserves.{AreReserves, AreStarting, is_reserved}
 use Rattle.exec_laws.specs.declared.growth.GrowthFlaw.{GrowthFlaw}
 use Rattle.pipeline_exec.specs.Ends.{Begun, EndsBadly, HasGrown, HasGrownByAll}
-use Rattle.proc_api.specs.Names.{BoxPicture, IsBlank, IsSourceKind, HasNoReader, Unloads, handed_out_by}
+use Rattle.proc_api.specs.Names.{BoxPicture, IsBlank, IsGraph, IsSourceKind, HasNoReader, Unloads, handed_out_by}
 use Rattle.proc_api.specs.declared.status.WorkFault.{WorkFault}
 use Rattle.exec_laws.specs.Names.{box_at, IsDone, IsFault, IsStuck}
 use Rattle.exec_laws.specs.declared.edges.StuckNode.{StuckNode}
@@ -140,20 +136,10 @@ pub record GivesPlan (B : (Begun → Type 0) → Type 0) (R : List BoxPicture �
 
 -- ---- what a run of a plan gives, by the boxes of a rack before and after it
 
-module _ (p : PlanGraph) (before after : List BoxPicture) where
-  abbrev pub PlanGivesRows : List Table → Type 0
-  PlanGivesRows chunks = GraphBegins p.form (kinds_taken p.specs.items p.kept)
-      (GivesRows (RunsPlan p.specs.items p.kept before after) (length p.specs.items) chunks)
-
-  abbrev pub PlanFails : PlanFault → Type 0
-  PlanFails f = PlanFaultHolds f (GraphBegins p.form (kinds_taken p.specs.items p.kept))
-      (RunsPlan p.specs.items p.kept before after)
-
--- A plan was run, and came to this, or to a fault. Its boxes were given back, or none was touched.
-pub record PlanEnds {A : Type 0} (p : PlanGraph)
-    (Gives : (before after : List BoxPicture) → A → Type 0) (r : Result A PlanFault)
+-- A plan was run, and gave rows, or a fault. Its boxes were given back, or none was touched.
+pub record PlanEnds (p : PlanGraph) (r : Result (Vec Table Global) PlanFault)
     (before after : List BoxPicture) : Type 0 where
   pub rack : LeavesRack (kinds_taken p.specs.items p.kept) before after
   pub blank : All IsBlank after
-  pub gives : IfOk r (Gives before after)
-  pub fault : IfErr r (PlanFails p before after)
+  pub gives : GivesPlan (GraphBegins p.form (kinds_taken p.specs.items p.kept))
+      (RunsPlan p.specs.items p.kept before after) (length p.specs.items) r

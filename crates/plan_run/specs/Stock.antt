@@ -1,6 +1,6 @@
 -- What is taken from a rack for a list of kinds, and what is left.
 use Rattle.std.specs.Prelude.{◌≤◌, cond, List, [], ◌∷◌, count_by}
-use Rattle.query_model.specs.declared.processor_spec.Kind.{Kind}
+use Rattle.proc_api.specs.Prelude.{Kind}
 use Rattle.proc_api.specs.Names.{BoxPicture, no_box, is_of, same_kind}
 
 -- the first box of the kind

@@ -1,4 +1,4 @@
-ghost use Rattle.std.specs.Prelude.{◌≡◌, ℕ, ◌+◌, ◌<◌, ◌≤◌, ◌++◌, ◌∷◌, [], length, map, count_by, vec_capacity, OnOk, OnErr};
+ghost use Rattle.std.specs.Prelude.{◌≡◌, ℕ, ◌+◌, ◌<◌, ◌≤◌, ◌++◌, ◌∷◌, [], length, map, count_by, slice_index_or, vec_capacity, OnOk, OnErr};
 ghost use Rattle.std.specs.List.{All};
 ghost use Rattle.chunk_data.specs.Places.{Changes};
 ghost use Rattle.query_model.specs.Kinds.{kind_of};
@@ -33,11 +33,20 @@ pub(crate) fn take_boxes(
     ensures spare { length rack.new.boxes.items + length boxes.new.items
         ≤ vec_capacity rack.new.boxes }
 {
-    for i in 0..specs.len() {
-        take_next(rack, specs[i].kind(), boxes);
+    for i in 0..specs.len() + kept.len() {
+        take_next(rack, kind_taken(specs, kept, i), boxes);
     }
-    for k in 0..kept.len() {
-        take_next(rack, kept.as_slice()[k], boxes);
+}
+
+#[tactic(auto, using(crate::proofs::Taking::places))]
+fn kind_taken(specs: &Vec<Spec>, kept: &List<Kind>, i: usize) -> Kind
+    requires { i < length specs.now.items + length kept.now }
+    ensures { result ≡ slice_index_or (kinds_taken specs.now.items kept.now) i result }
+{
+    if i < specs.len() {
+        specs[i].kind()
+    } else {
+        *kept.get(i - specs.len())
     }
 }
 
@@ -78,6 +87,7 @@ pub(crate) fn load_boxes<P: Processor>(boxes: &mut Vec<P>, specs: Vec<Spec>) -> 
 }
 
 /// Loads a blank box with a spec of its kind, which only want of memory refuses.
+#[tactic(auto, using(crate::proofs::Loading::box_read))]
 fn load_at<P: Processor>(boxes: &mut Vec<P>, i: usize, spec: Spec) -> Result<(), Memory>
     requires in_range { i < length boxes.old.items }
     requires blank { IsBlank (box_at (map P.seen boxes.old.items) i) }
@@ -90,8 +100,7 @@ fn load_at<P: Processor>(boxes: &mut Vec<P>, i: usize, spec: Spec) -> Result<(),
     match boxes[i].load(spec) {
         Ok(()) => Ok(()),
         Err(LoadRefusal::Memory) => Err(Memory),
-        Err(LoadRefusal::NotBlank) => unreachable!(),
-        Err(LoadRefusal::WrongKind) => unreachable!(),
+        Err(LoadRefusal::NotBlank) | Err(LoadRefusal::WrongKind) => unreachable!(),
     }
 }
 
@@ -113,25 +122,22 @@ fn unload_at<P: Processor>(boxes: &mut Vec<P>, i: usize)
 }
 
 /// Unloads the boxes, and puts them behind those of the rack, in order.
-pub(crate) fn give_back(rack: &mut Rack, boxes: Vec<Box<dyn Processor + Send>>)
+pub(crate) fn give_back(rack: &mut Rack, mut boxes: Vec<Box<dyn Processor + Send>>)
     requires { length rack.old.boxes.items + length boxes.items ≤ vec_capacity rack.old.boxes }
     ensures { PutsBehind Unloads (map (λ b. seen b) boxes.items)
         (map (λ b. seen b) rack.old.boxes.items) (map (λ b. seen b) rack.new.boxes.items) }
 {
-    let mut boxes = boxes;
     unload_boxes(&mut boxes);
     put_back(rack, boxes);
 }
 
-/// Puts blank boxes behind those of the rack, in room that is there.
-fn put_back(rack: &mut Rack, boxes: Vec<Box<dyn Processor + Send>>)
-    requires blank { All IsBlank (map (λ b. seen b) boxes.items) }
-    requires spare { length rack.old.boxes.items + length boxes.items
-        ≤ vec_capacity rack.old.boxes }
+/// Puts boxes behind those of the rack, in room that is there.
+fn put_back(rack: &mut Rack, mut boxes: Vec<Box<dyn Processor + Send>>)
+    requires { length rack.old.boxes.items + length boxes.items ≤ vec_capacity rack.old.boxes }
     ensures { rack.new.boxes.items ≡ rack.old.boxes.items ++ boxes.items }
 {
-    let mut boxes = boxes;
-    for _box in 0..boxes.len() {
-        rack.give_back(boxes.remove(0));
+    match rack.boxes.append(&mut boxes) {
+        Ok(()) => {}
+        Err(_) => unreachable!(),
     }
 }

@@ -5,7 +5,7 @@ ghost use Rattle.proc_api.specs.Reserves.{AreStarting};
 ghost use Rattle.exec_laws.specs.Names.{GivenBack, IsBorn, box_at};
 ghost use Rattle.pipeline_exec.specs.Ends.{Begun, ExecEndHolds};
 ghost use Rattle.plan_run.specs.Boxes.{AreRun, EachBox, IsLater, IsStill, LeavesStill};
-ghost use Rattle.plan_run.specs.Plans.{kinds_in, kinds_taken, GivesPlan, GraphBegins, MayRun, MayRunPlan, PlanEnds, PlanGivesRows, ReadsByKind};
+ghost use Rattle.plan_run.specs.Plans.{kinds_in, kinds_taken, GivesPlan, GraphBegins, MayRun, MayRunPlan, PlanEnds, ReadsByKind};
 
 use crate::boxes::{give_back, load_boxes, take_boxes};
 use chunk_data::{Chunk, List, Memory};
@@ -65,8 +65,7 @@ pub fn run_plan<R: AllocGlobal + Threads + Wait + Sync>(
 ) -> Result<Vec<Chunk>, PlanFault>
     requires runnable { MayRunPlan plan workers
         (map (λ b. seen (b.vtable, b.value)) rack.old.boxes.items) }
-    ensures { PlanEnds plan
-        (λ before after chunks. PlanGivesRows plan before after chunks.items) result
+    ensures { PlanEnds plan result
         (map (λ b. seen (b.vtable, b.value)) rack.old.boxes.items)
         (map (λ b. seen (b.vtable, b.value)) rack.new.boxes.items) }
 {
@@ -82,17 +81,15 @@ fn run_in<R: AllocGlobal + Threads + Wait + Sync>(
     rt: &R,
     rack: &mut Rack,
     plan: PlanGraph,
-    room: Vec<Box<dyn Processor + Send>>,
+    mut boxes: Vec<Box<dyn Processor + Send>>,
     workers: u32,
 ) -> Result<Vec<Chunk>, PlanFault>
     requires runnable { MayRunPlan plan workers (map (λ b. seen b) rack.old.boxes.items) }
-    requires empty { room.items ≡ [] }
-    requires room { length plan.specs.items + length plan.kept ≤ vec_capacity room }
-    ensures { PlanEnds plan
-        (λ before after chunks. PlanGivesRows plan before after chunks.items) result
+    requires empty { boxes.items ≡ [] }
+    requires room { length plan.specs.items + length plan.kept ≤ vec_capacity boxes }
+    ensures { PlanEnds plan result
         (map (λ b. seen b) rack.old.boxes.items) (map (λ b. seen b) rack.new.boxes.items) }
 {
-    let mut boxes = room;
     take_boxes(rack, &plan.specs, &plan.kept, &mut boxes);
     let PlanEnd { boxes, result } = run_taken(rt, boxes, plan, workers);
     give_back(rack, boxes);
@@ -102,7 +99,7 @@ fn run_in<R: AllocGlobal + Threads + Wait + Sync>(
 /// Loads the boxes and runs the graph of them.
 fn run_taken<R: AllocGlobal + Threads + Wait + Sync>(
     rt: &R,
-    boxes: Vec<Box<dyn Processor + Send>>,
+    mut boxes: Vec<Box<dyn Processor + Send>>,
     plan: PlanGraph,
     workers: u32,
 ) -> PlanEnd
@@ -123,7 +120,6 @@ fn run_taken<R: AllocGlobal + Threads + Wait + Sync>(
         form,
     } = plan;
     let nodes = specs.len();
-    let mut boxes = boxes;
     match load_boxes(&mut boxes, specs) {
         Ok(()) => run_loaded(rt, boxes, nodes, form, workers),
         Err(Memory) => PlanEnd {
@@ -194,6 +190,7 @@ fn result_of<P: Processor>(
     }
 }
 
+#[tactic(auto, using(crate::proofs::Loading::box_read))]
 fn kind_at<P: Processor>(boxes: &Vec<P>, n: usize) -> Kind
     requires { n < length boxes.now.items }
     ensures kind { result ≡ (box_at (map P.seen boxes.now.items) n).kind }
@@ -202,6 +199,7 @@ fn kind_at<P: Processor>(boxes: &Vec<P>, n: usize) -> Kind
     boxes[n].kind()
 }
 
+#[tactic(auto, using(crate::proofs::Loading::box_read))]
 fn take_rows_at<P: Processor>(boxes: &mut Vec<P>, n: usize) -> Vec<Chunk>
     requires in_range { n < length boxes.old.items }
     requires there { (box_at (map P.seen boxes.old.items) n).work.handed_out ≡ false }

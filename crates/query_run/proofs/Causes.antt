@@ -1,11 +1,10 @@
 -- Why a plan gave no text, as what is said of the command, its part and the box that served it.
-use Rattle.query_run.proofs.Imports.{AreLawfulOver, BoxPicture, Checked, Command, DraftNode, FailsAtPart, FailsWith, FileHas, FileRead, Files, GraphBegins, GraphForm, HasNoReader, IfSome, IsListNamed, IsLongFile, IsPartNamed, IsPlanFault, IsRunnable, IsSourceKind, KeepsBehind, Kind, LeavesPlan, LeavesRack, List, NoFile, OfFile, OfPart, Option, PartFailsFor, PartFailure, PartFile, PartName, PartSpec, PartsFile, PlanFailsFor, PlanFailure, PlanFault, PlanFaultHolds, RanPlan, RanWith, ReadsList, ReadsPart, RunsPlan, Some, Spec, Tells, WorkFault, arith, bad_line_in, both_ways, box_at, cases_lt, failure_of, file_bytes, file_read, inl, inr, kind_of, kinds_for, kinds_reserved, length, length-map, part_bad_place, plan_nodes, plan_of, refl, reserves_from, specs_in, subst, sym, taken_at, true, used_part, ℕ, ◌<◌, ◌≡◌, ◌⊎◌, None}
+use Rattle.query_run.proofs.Imports.{AreLawfulOver, BoxPicture, Checked, Command, DraftNode, FailsAtPart, FailsWith, FileHas, FileRead, Files, GraphBegins, HasNoReader, IfSome, IsListNamed, IsLongFile, IsPartNamed, IsRunnable, IsSourceKind, KeepsBehind, Kind, LeavesPlan, LeavesRack, List, NoFile, OfFile, OfPart, Option, PartFailsFor, WorkFault, PartFile, PartName, PartSpec, PartsFile, PlanFailsFor, PlanFailure, PlanFault, PlanFaultHolds, RanPlan, RanWith, ReadsList, ReadsPart, RunsPlan, Some, Spec, Tells, arith, bad_line_in, both_ways, box_at, cases_lt, failure_of, file_bytes, file_read, inl, inr, kind_of, kinds_for, kinds_reserved, length, length-map, part_bad_place, refl, reserves_from, specs_in, subst, taken_at, true, used_part, ℕ, ◌<◌, ◌≡◌, ◌⊎◌, None}
 use Rattle.proc_api.specs.declared.status.WorkFault.TheVariants as fault
 use Rattle.plan_run.specs.declared.run.PlanFault.TheVariants as end
-use Rattle.query_run.specs.declared.ending.PartFailure.TheVariants as part
 use Rattle.query_run.proofs.Flaws.{flawed-unlawful}
-use Rattle.query_run.proofs.Grown.{HasItsName, ReadsItsName, formed, names_of, reads-its-name, serves}
-use Rattle.query_run.proofs.Plans.{AreCopies, RanCopies, ended-files, ended-lawful, kinds-for-same, loaded-kind, ran-at}
+use Rattle.query_run.proofs.Grown.{formed, names_of, reads-its-name, serves}
+use Rattle.query_run.proofs.Plans.{AreCopies, HasItsName, RanCopies, ReadsItsName, ended-files, ended-lawful, kinds-for-same, loaded-kind, ran-at}
 
 -- ---- what a kind reads
 
@@ -19,14 +18,6 @@ reads-one k part list = grind arith
 
 source-kind : (k : Kind) → ReadsPart k ⊎ ReadsList k → IsSourceKind k
 source-kind k reads = grind arith
-
--- ---- a plan's faults
-
--- want of memory is told as itself
-pub plan-fault : (form : GraphForm) (kinds : List Kind) (R : List BoxPicture → Type 0)
-    (f : PlanFault) → PlanFaultHolds f (GraphBegins form kinds) R → IsPlanFault f
-plan-fault form kinds R (end.Fault node fault.Memory) h = h.holds.grown.holds.not_memory refl
-plan-fault form kinds R f h = tt
 
 -- ---- the run of a query's plan
 
@@ -75,7 +66,7 @@ module _ {c : Command} {q : Checked} {before : List BoxPicture} {nodes : List Dr
     at-source : (HasNoReader box → ⊥) → IsSourceKind box.kind
     at-source some = grind arith
 
-    fails-at : IsSourceKind box.kind → (f : PartFailure)
+    fails-at : IsSourceKind box.kind → (f : WorkFault)
         → PartFailsFor f c q (names node) before taken given
         → FailsAtPart (names node) f c q before after
     fails-at source f why = record {
@@ -129,8 +120,7 @@ module _ {c : Command} {q : Checked} {before : List BoxPicture} {nodes : List Dr
               (loaded s e) (kind-reads s))
 
   leaves : LeavesRack (kinds_for nodes) before after → LeavesPlan c q before after
-  leaves left = subst (λ ks. LeavesRack ks before after)
-      (kinds-for-same nodes (plan_nodes (plan_of c q)) copies.same) left
+  leaves left = grind (arith, kinds-for-same)
 
   -- every failure of the plan has its cause
   plan-cause : (f : PlanFault) → LeavesRack (kinds_for nodes) before after
@@ -139,26 +129,24 @@ module _ {c : Command} {q : Checked} {before : List BoxPicture} {nodes : List Dr
   plan-cause (end.Fault node fault.Read) left g =
       let since = (ran-with g).1.faults_since in
       let some = g.holds.grown.holds.keeps.holds in
-      fails-at g
-      (at-source g (λ none. let nothing = none.faults in omega (arith, nothing, since, some)))
-      part.Read (let same = given_faults g in omega (arith, same, since, some))
+      fails-at g (at-source g (λ none. omega (arith, none.faults, since, some))) fault.Read
+      (omega (arith, given_faults g, since, some))
   plan-cause (end.Fault node fault.Stalled) left g =
       let since = (ran-with g).1.pendings_since in
       let many = g.holds.grown.holds.keeps.holds in
-      fails-at g
-      (at-source g (λ none. let nothing = none.pendings in omega (arith, nothing, since, many)))
-      part.Stalled (let same = given_pendings g in omega (arith, same, since, many))
+      fails-at g (at-source g (λ none. omega (arith, none.pendings, since, many))) fault.Stalled
+      (omega (arith, given_pendings g, since, many))
   plan-cause (end.Fault node fault.TooLong) left g =
       let long = g.holds.grown.holds.keeps.holds in
-      let source = at-source g (λ none. let given = none.given in omega (arith, given, long)) in
-      fails-at g source part.TooLong (λ files told.
+      let source = at-source g (λ none. omega (arith, none.given, long)) in
+      fails-at g source fault.TooLong (λ files told.
       tells g files told (λ part files. IsLongFile files part.path) _ source
       (λ part named header long is. (part.path, inr (used_part part, named, refl), long))
       (λ list named long is. (list.path, inl named, long)) g.holds.grown.holds.keeps.is_due)
   plan-cause (end.Fault node (fault.Bad place)) left g =
       let of_kind = g.holds.grown.holds.keeps.holds.0 in
       let source = source-kind _ (inl of_kind) in
-      fails-at g source (part.Bad place) (λ files told.
+      fails-at g source (fault.Bad place) (λ files told.
       tells g files told
       (λ part files. part_bad_place part.header part.types files part.path ≡ Some place) _ source
       (λ part named header bad is. (
@@ -171,11 +159,12 @@ module _ {c : Command} {q : Checked} {before : List BoxPicture} {nodes : List Dr
   plan-cause (end.Fault node (fault.BadList line)) left g =
       let of_kind = g.holds.grown.holds.keeps.holds.0 in
       let source = source-kind _ (inr of_kind) in
-      fails-at g source (part.BadList line) (λ files told.
+      fails-at g source (fault.BadList line) (λ files told.
       tells g files told (λ part files. bad_line_in (file_bytes files part.path) ≡ Some line) _
       source
       (λ part named header bad is. absurd (reads-one _ is of_kind))
       (λ list named bad is. (list.path, named, bad)) (λ _. g.holds.grown.holds.keeps.holds.1))
+  plan-cause (end.Fault node fault.Memory) left g = grind arith
   plan-cause (end.Stuck k) left g = record {
     runnable = runnable;
     ran = ran g.holds.ended g.holds.runs;
@@ -204,14 +193,11 @@ module _ {c : Command} {q : Checked} {before : List BoxPicture} {nodes : List Dr
     of_kind = g.holds.of_kind;
     unlawful = flawed-unlawful copies runnable keeps k g;
   }
-  plan-cause f left g = leaves left
+  plan-cause end.Memory left g = leaves left
 
   -- a failure that was told has its cause
   pub told-cause : (f : PlanFault) (told : PlanFailure) → Tells told (failure_of f names)
       → LeavesRack (kinds_for nodes) before after
       → PlanFaultHolds f (GraphBegins (formed nodes) (kinds_for nodes)) Runs
       → PlanFailsFor told c q before after
-  told-cause f told (inl e) left why =
-      subst (λ x. PlanFailsFor x c q before after) (sym e) (plan-cause f left why)
-  told-cause f told (inr e) left why =
-      subst (λ x. PlanFailsFor x c q before after) (sym e) (leaves left)
+  told-cause f told h left why = grind (arith, plan-cause, leaves)

@@ -1,5 +1,5 @@
 -- From the chunks that a plan's graph gives to the text of one answer of a command.
-use Rattle.query_run.proofs.Imports.{All, All-append, AllPartsValid, AreLawfulOver, Bool, BoxPicture, Checked, ColumnType, Command, DraftNode, Files, GivesText, GrowsLawfully, HasEnded, HasEnoughRows, HasGrown, HasPulled, IfSome, IsCertain, IsDone, IsPlain, IsRunnable, IsUngrown, IsValidUsed, KeepsBehind, Kind, List, MakesText, NodePort, None, Option, PulledMore, PullsItsFlow, QueryAnswered, Row, RunsPlan, SelectPlan, Shape, Some, SortKey, Spec, Stream, [], answer_text, ap, arith, body_nodes, born_wires, both-valid, box_at, chunk_rows, collect_node, database, false, flat_map, flow, get_or-map, grown-lists, grown_kind, handed_out_by, heading, if◌then◌else◌, inl, inr, join_use, join_valid, joined-valid, kind_of, kinds_reserved, length, length-append, length-map, lists-valid, map, needed_valid, no_spec, order_of, parts_used, plan_nodes, plan_of, plan_valid, planned-ended, ports_of, pulled_rows, refl, reserves_from, row_of, rows_text, rows_together, same_kind, shape_of, shape_types, since-pulled, source_types, sources_of_files, spec_at, specs_in, stream_pulled_at, stream_rows, subst, sym, table-valid, true, ℕ, ◌++◌, ◌+◌, ◌-◌, ◌<◌, ◌∙◌, ◌∷◌, ◌≡◌, ◌⊎◌, run-count}
+use Rattle.query_run.proofs.Imports.{All, All-append, AllPartsValid, AreLawfulOver, Bool, BoxPicture, Checked, ColumnType, Command, DraftNode, Files, GivesText, GrowsLawfully, HasEnoughRows, HasGrown, HasPulled, IfSome, IsCertain, IsDone, IsPlain, IsRunnable, IsUngrown, IsValidUsed, KeepsBehind, Kind, LawfulSnapshot, List, MakesText, NodePort, None, Option, PulledMore, PullsItsFlow, QueryAnswered, Row, SelectPlan, Shape, Some, SortKey, Spec, Stream, [], answer_text, ap, arith, body_nodes, born_wires, both-valid, box_at, chunk_rows, collect_node, database, false, flat_map, flow, get_or-map, grown-lists, grown_kind, handed_out_by, heading, if◌then◌else◌, inl, inr, join_use, join_valid, joined-valid, kind_of, kinds_reserved, length, length-append, length-map, lists-valid, map, needed_valid, no_spec, order_of, parts_used, plan_nodes, plan_of, plan_valid, planned-ended, ports_of, pulled_rows, refl, reserves_from, row_of, rows_text, rows_together, same_kind, shape_of, shape_types, since-pulled, source_types, sources_of_files, spec_at, specs_in, stream_pulled_at, stream_rows, subst, sym, table-valid, true, ℕ, ◌++◌, ◌+◌, ◌-◌, ◌<◌, ◌∙◌, ◌∷◌, ◌≡◌, ◌⊎◌, run-count}
 use Rattle.query_model.specs.declared.processor_spec.Kind.TheVariants as kind
 use Rattle.query_run.proofs.Commands.{typed_by_tables}
 use Rattle.query_run.proofs.Grown.{formed, grows}
@@ -11,8 +11,7 @@ use Rattle.query_run.proofs.Reserves.{kept-sources}
 pub heading_before_rows : (header : Bool) (names : List (List ℕ)) (rows : List Row)
     → heading (if header then Some names else None) ++ rows_text rows
     ≡ answer_text header names rows
-heading_before_rows true names rows = refl
-heading_before_rows false names rows = refl
+heading_before_rows header names rows = grind arith
 
 if-some : {A : Type 0} {P Q : A → Type 0} (o : Option A) → ((x : A) → P x → Q x) → IfSome o P
     → IfSome o Q
@@ -44,17 +43,11 @@ module _ {c : Command} {q : Checked} {before after : List BoxPicture} {nodes : L
   abbrev specs : List Spec
   specs = specs_in nodes
 
-  abbrev kept : List Kind
-  kept = kinds_reserved (reserves_from 0 nodes)
-
   abbrev ended : List BoxPicture
   ended = g.gives.holds.ended
 
-  abbrev run : RunsPlan specs kept before after ended
-  run = g.gives.holds.runs
-
   so : RanCopies c q before after nodes ended
-  so = record { copies = copies; runnable = runnable; run = run }
+  so = record { copies = copies; runnable = runnable; run = g.gives.holds.runs }
 
   abbrev grown : HasGrown (record {
     ranks = (formed nodes).ranks;
@@ -74,40 +67,40 @@ module _ {c : Command} {q : Checked} {before after : List BoxPicture} {nodes : L
   nodes_count : length nodes ≡ last + 1
   nodes_count = grind (arith, length-map, count, copies.same)
 
-  boxes_count : length ended ≡ length specs + length kept
-  boxes_count = run-count specs kept before after ended run
+  boxes_count : length ended ≡ length nodes + length (kinds_reserved (reserves_from 0 nodes))
+  boxes_count = grind (arith, run-count so.run, length-map)
 
   in_ended : (n : ℕ) → n < length nodes → n < length ended
-  in_ended n lt = grind (arith, boxes_count, length-map)
+  in_ended n lt = omega (arith, lt, boxes_count)
 
   module _ (files : Files) (honest : AreLawfulOver files before) where
-    lawfully : GrowsLawfully files nodes (formed nodes).wires (formed nodes).reserves g.gives.boxes
+    lawfully : GrowsLawfully files nodes (formed nodes).reserves g.gives.boxes
         ended grown.births
     lawfully = grows so keeps g.gives.boxes g.gives.kinds_are g.gives.starting grown.births
         grown.are files honest
 
-    abbrev has_ended : HasEnded files nodes ended
-    has_ended = record {
+    abbrev at_end : LawfulSnapshot files nodes ended
+    at_end = record {
       more = flat_map born_wires grown.births;
-      count = let lt = in_ended in let all = boxes_count in
-          let each = length-map nodes (λ (n : DraftNode). n.spec) in omega (arith, all, each);
+      count = omega (arith, boxes_count);
       specs = lawfully.specs;
       lawful = lawfully.lawful;
       told = lawfully.told;
-      grown = grown-lists files nodes (formed nodes).wires (formed nodes).reserves g.gives.boxes
+      grown = grown-lists files nodes (formed nodes).reserves g.gives.boxes
           ended grown.births lawfully g.gives.holds.done.all;
-      done = grown.holds;
+      lists = grown.holds.snapshot;
     }
 
-    answered : QueryAnswered q c.header files c.tables c.threads plan nodes ended has_ended last
+    answered : QueryAnswered q c.header files c.tables c.threads plan nodes ended at_end last
     answered =
-        planned-ended q c.tables c.threads c.chunk_rows c.header files nodes ended has_ended last
+        planned-ended q c.tables c.threads c.chunk_rows c.header files nodes ended last
         (typed_by_tables c q copies.checked)
         (let some = copies.within.some_threads in omega (arith, some))
         (small_plan copies runnable.paths) copies.same count
+        (record { at_end = at_end; over = grown.holds.over })
 
     abbrev rows : List Row
-    rows = chunk_rows (has_ended.done.pulled last 0)
+    rows = chunk_rows (at_end.lists.pulled last 0)
 
     text_is : text ≡ answer_text c.header q.names rows
     text_is =
@@ -117,8 +110,7 @@ module _ {c : Command} {q : Checked} {before after : List BoxPicture} {nodes : L
         sym (loaded-kind so last collect_node.spec (in_ended last lt)
         collected.loaded) in
         let place : length specs - 1 ≡ last =
-        let n = nodes_count in
-        let each = length-map nodes (λ (n : DraftNode). n.spec) in omega (arith, n, each) in
+        omega (arith, nodes_count, length-map nodes (λ (n : DraftNode). n.spec)) in
         g.is
         ∙ ap (λ l. answer_text c.header q.names (chunk_rows l))
         (g.gives.holds.rows
@@ -160,17 +152,15 @@ module _ {c : Command} {q : Checked} {before after : List BoxPicture} {nodes : L
     -- a kind of which nothing is kept pulled what its nodes did
     nodes_pulled : (k : Kind) (n : ℕ) → (row_of k).reads_list ≡ false
         → same_kind grown_kind k ≡ false
-        → pulled_rows k 0 nodes (stream_pulled_at ended has_ended.done.pulled) ≡ n
+        → pulled_rows k 0 nodes (stream_pulled_at ended at_end.lists.pulled) ≡ n
         → PulledMore k before after (Some n)
     unfolding spec_at
     nodes_pulled k n list csv e =
-        let f : NodePort → Stream = stream_pulled_at ended has_ended.done.pulled in
+        let f : NodePort → Stream = stream_pulled_at ended at_end.lists.pulled in
         let others = kept-sources (λ j. same_kind j k ≡ false) csv 0 nodes in
-        let each = length-map nodes (λ (n : DraftNode). n.spec) in
-        kind-pulled specs kept before after ended (stock so) run k others n
-        (elim (since-pulled k f 0 nodes ended has_ended.count
-        (λ i le lt. kept-other specs kept before after ended (stock so) run k others i
-        (rw length-map le) lt)
+        kind-pulled (stock so) so.run k others n
+        (elim (since-pulled k f 0 nodes ended at_end.count
+        (λ i le lt. kept-other (stock so) so.run k others i (rw length-map le) lt)
         (λ i z lt is. (
           ended-kind so i lt
               ∙ ap kind_of (get_or-map (λ (n : DraftNode). n.spec) nodes i z no_spec lt
@@ -184,10 +174,10 @@ module _ {c : Command} {q : Checked} {before after : List BoxPicture} {nodes : L
     -- nothing is told of sources
     told-kind : (k : Kind)
         → ((n : ℕ) → (row_of k).reads_list ≡ false → same_kind grown_kind k ≡ false
-        → pulled_rows k 0 nodes (stream_pulled_at ended has_ended.done.pulled) ≡ n
+        → pulled_rows k 0 nodes (stream_pulled_at ended at_end.lists.pulled) ≡ n
         → PulledMore k before after (Some n))
         → IfSome (flow k q (database c.header files c.tables) rows)
-        (λ n. pulled_rows k 0 nodes (stream_pulled_at ended has_ended.done.pulled) ≡ n)
+        (λ n. pulled_rows k 0 nodes (stream_pulled_at ended at_end.lists.pulled) ≡ n)
         → PulledMore k before after (flow k q (database c.header files c.tables) rows)
     told-kind kind.Csv more h = tt
     told-kind kind.List more h = tt

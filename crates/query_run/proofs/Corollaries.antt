@@ -1,12 +1,12 @@
 -- The corollaries of the theorem on how a run ends, and completeness.
-use Rattle.query_run.proofs.Imports.{All, All-contains, Answered, AreRefused, BadPlace, BoxPicture, Checked, Command, Declared, Ending, Ends, EndsFor, EndsUnlawful, Failed, FailsAtPart, Failure, Files, GivesBack, HasBoxes, IsAccepted, IsAnswerable, IsBlank, IsCheckedCommand, IsDueRefusal, IsEither, IsHonest, IsListDeclared, IsListUsed, IsLongFile, IsRefusedFor, IsRun, IsRunnable, IsShort, IsValidList, IsValidUsed, IsWithinLimits, Kind, LackBoxes, LacksBoxes, LeavesBoxes, List, MeanNothing, NameManyPaths, NamesFewPaths, None, OfChecked, OfCommand, OfQuery, Option, PartName, PlanFailsFor, PlanFailure, PulledRows, RanPlan, ReaderFails, Refusal, Refused, Shortage, Some, SucceedsUnless, Untouched, UsedPart, WriteFailed, WritesAnswer, arith, both_ways, boxes_for, command_means, failure_status, inl, inr, kinds_reserved, limits_kept, one_tree, plan_kinds, plan_nodes, plan_of, plan_status, query_status, refl, refused_status, reserves_from, runs-give-back, same_refusal, schemas_of, specs_in, status_of, subst, sym, used_parts, used_tables, ℕ, ◌∙◌, ◌≡◌, ◌≢◌, ◌⊎◌}
+use Rattle.query_run.proofs.Imports.{All, All-contains, Answered, AreRefused, BadPlace, BoxPicture, Checked, Command, Declared, Ending, Ends, EndsFor, EndsUnlawful, Failed, FailsAtPart, Files, GivesBack, HasBoxes, IsAccepted, IsAnswerable, IsBlank, IsCheckedCommand, IsDueRefusal, IsEither, IsHonest, IsListDeclared, IsListUsed, IsLongFile, IsRefusedFor, IsRun, IsRunnable, IsShort, IsValidList, IsValidUsed, IsWithinLimits, Kind, LackBoxes, LacksBoxes, LeavesBoxes, List, MeanNothing, NameManyPaths, NamesFewPaths, None, OfChecked, OfCommand, OfQuery, Option, PartName, PlanFailsFor, PlanFailure, PulledRows, RanPlan, ReaderFails, Refusal, Refused, Shortage, Some, SucceedsUnless, Untouched, UsedPart, WriteFailed, WritesAnswer, arith, both_ways, boxes_for, command_means, inl, inr, limits_kept, one_tree, plan_kinds, plan_nodes, plan_of, plan_status, refl, refused_status, runs-give-back, same_refusal, schemas_of, status_of, subst, sym, used_parts, used_tables, ℕ, ◌∙◌, ◌≡◌, ◌≢◌, ◌⊎◌}
 use Rattle.query_model.specs.declared.query.Refusal.TheVariants as refuse
 use Rattle.sql_text.specs.declared.limits.ParseRefusal.TheVariants as parse
 use Rattle.query_run.specs.declared.ending.Refused.TheVariants as refused
-use Rattle.query_run.specs.declared.ending.PartFailure.TheVariants as part
+use Rattle.proc_api.specs.declared.status.WorkFault.TheVariants as fault
 use Rattle.query_run.specs.declared.ending.PlanFailure.TheVariants as plan
 use Rattle.query_run.specs.declared.ending.Failure.TheVariants as failure
-use Rattle.query_run.proofs.Commands.{accepted_of, same_need, same_uses, stock_serves}
+use Rattle.query_run.proofs.Commands.{same_need, same_uses, stock_serves}
 use Rattle.query_run.proofs.Plans.{ended-lawful, kinds-for-same, plan_stock}
 
 -- words mean one command
@@ -23,11 +23,6 @@ moved {P} a b = subst P (same_command a b) a.holds
 means_something : {P : Command → Type 0} {words : List (List ℕ)} → OfCommand words P
     → MeanNothing words → ⊥
 means_something o none = grind arith
-
--- words whose query is checked aren't refused
-checked_not_refused : {P : Command → Checked → Type 0} {words : List (List ℕ)} → OfQuery words P
-    → AreRefused words → ⊥
-checked_not_refused h o = moved o h (accepted_of h.command h.holds.checked h.holds.is)
 
 -- what else is true of the query that the words mean
 of_query : {P Q : Command → Checked → Type 0} {words : List (List ℕ)} (h : OfQuery words P)
@@ -49,7 +44,8 @@ refusal_is command (refused.Text r) h = inr (refl, λ a. clash a.read.early h)
 refusal_is command (refused.Query refusal) h = go refusal h.due
   where
     go : (r : Refusal) → IsDueRefusal h.query (schemas_of command) r
-        → (query_status r ≡ 7) ⊎ ((query_status r ≡ 2) × (IsAccepted command → ⊥))
+        → (refused_status (refused.Query r) ≡ 7)
+        ⊎ ((refused_status (refused.Query r) ≡ 2) × (IsAccepted command → ⊥))
     go refuse.Memory due = inl refl
     go r (inl e) = absurd cc
     go r (inr e) = inr (
@@ -59,18 +55,12 @@ refusal_is command (refused.Query refusal) h = go refusal h.due
           ∙ a.accepted) e,
     )
 
--- no failure has the status of an answer
-not_zero : (f : Failure) → failure_status f ≡ 0 → ⊥
-not_zero f e = grind arith
-
 -- ---- paths and racks that have too few boxes
 
 not_lacking : (c : Command) (before : List BoxPicture)
     → OfChecked c (λ q. HasBoxes (boxes_for c q) before)
     → OfChecked c (λ q. LacksBoxes (boxes_for c q) before) → ⊥
-not_lacking c before a b =
-    let same = same_need c a.checked b.checked a.is b.is b.holds.kind in
-    grind (arith, same, a.holds b.holds.kind, b.holds.fewer)
+not_lacking c before a b = grind (arith, same_need c a.checked b.checked a.is b.is b.holds.kind)
 
 not_crowded : (c : Command) → OfChecked c (NamesFewPaths c)
     → OfChecked c (λ q. NamesFewPaths c q → ⊥) → ⊥
@@ -85,15 +75,14 @@ module _ (before after : List BoxPicture) where
   gives_back c q runnable r =
       subst (λ ks. GivesBack ks before after)
       (kinds-for-same r.nodes (plan_nodes (plan_of c q)) r.same)
-      (runs-give-back (specs_in r.nodes) (kinds_reserved (reserves_from 0 r.nodes)) before after
-      r.ended r.runs (plan_stock c q r.nodes before r.same runnable.boxes))
+      (runs-give-back r.runs (plan_stock c q r.nodes before r.same runnable.boxes))
 
   -- over an honest rack, for a command that can be answered
   module _ (files : Files) (c : Command) (q : Checked) (honest : IsHonest files before)
       (a : IsAnswerable files c) (is : IsCheckedCommand c q) where
     -- no part is bad
     not_bad : (name : PartName) (place : BadPlace)
-        → FailsAtPart name (part.Bad place) c q before after → ⊥
+        → FailsAtPart name (fault.Bad place) c q before after → ⊥
     not_bad name place h =
         let bad = h.fails files honest.boxes_are in
         clash (All-contains (IsValidUsed c.header files) (used_parts files c.tables q) bad.0
@@ -101,7 +90,7 @@ module _ (before after : List BoxPicture) where
 
     -- nor a list
     not_bad_list : (name : PartName) (line : ℕ)
-        → FailsAtPart name (part.BadList line) c q before after → ⊥
+        → FailsAtPart name (fault.BadList line) c q before after → ⊥
     not_bad_list name line h =
         let bad = h.fails files honest.boxes_are in
         let list = bad.1.list in
@@ -111,7 +100,7 @@ module _ (before after : List BoxPicture) where
         clash (subst (λ d. IsValidList files d) list.names_list declared).1 bad.2
 
     -- nor is one too long
-    not_long : (name : PartName) → FailsAtPart name part.TooLong c q before after → ⊥
+    not_long : (name : PartName) → FailsAtPart name fault.TooLong c q before after → ⊥
     not_long name h =
         let long = h.fails files honest.boxes_are in
         elim long.1 [
@@ -137,17 +126,18 @@ module _ (before after : List BoxPicture) where
 
     -- So a plan fails for want of memory alone, where no reader fails.
     plan_memory : IsWithinLimits c → ((name : PartName)
-        → FailsAtPart name part.Read c q before after
-        ⊎ FailsAtPart name part.Stalled c q before after → ⊥)
+        → FailsAtPart name fault.Read c q before after
+        ⊎ FailsAtPart name fault.Stalled c q before after → ⊥)
         → (f : PlanFailure) → PlanFailsFor f c q before after → plan_status f ≡ 7
     plan_memory within well (plan.Paths name count) h = absurd (clash (a.paths q is) h.0)
     plan_memory within well (plan.Stock s) h = absurd (not_short within s h.1)
-    plan_memory within well (plan.Part name (part.Bad place)) h = absurd (not_bad name place h)
-    plan_memory within well (plan.Part name (part.BadList line)) h =
+    plan_memory within well (plan.Part name (fault.Bad place)) h = absurd (not_bad name place h)
+    plan_memory within well (plan.Part name (fault.BadList line)) h =
         absurd (not_bad_list name line h)
-    plan_memory within well (plan.Part name part.Read) h = absurd (well name (inl h))
-    plan_memory within well (plan.Part name part.Stalled) h = absurd (well name (inr h))
-    plan_memory within well (plan.Part name part.TooLong) h = absurd (not_long name h)
+    plan_memory within well (plan.Part name fault.Read) h = absurd (well name (inl h))
+    plan_memory within well (plan.Part name fault.Stalled) h = absurd (well name (inr h))
+    plan_memory within well (plan.Part name fault.TooLong) h = absurd (not_long name h)
+    plan_memory within well (plan.Part name fault.Memory) h = refl
     plan_memory within well (plan.Unlawful k) h = absurd (not_unlawful within k h)
     plan_memory within well plan.Memory h = refl
 
@@ -201,9 +191,7 @@ module _ (words : List (List ℕ)) (before after : List BoxPicture) (out₀ out 
   -- an answered run wrote the text of an answer, and its boxes pulled the flow of that answer
   pulled_of : (e : Ending) → status ≡ status_of e → Why e → status ≡ 0
       → PulledRows words before after out₀ out
-  pulled_of Answered s h z = search (arith)
-  pulled_of (Failed f) s h z = absurd (not_zero f (sym s ∙ z))
-  pulled_of WriteFailed s h z = absurd (omega (arith, s, z))
+  pulled_of e s h z = search arith
 
   answered_of : PulledRows words before after out₀ out → WritesAnswer words before out₀ out
   answered_of p = λ files told.
@@ -216,23 +204,14 @@ module _ (words : List (List ℕ)) (before after : List BoxPicture) (out₀ out 
 
   -- a command whose text is not accepted is refused, or memory ran out
   refused_of : HasCourse → AreRefused words → IsEither 2 7 status
-  refused_of (takes_boxes h) o = absurd (checked_not_refused h o)
-  refused_of (lacks_memory same s) o = inr s
-  refused_of (lacks_command same s none) o = absurd (means_something o none)
-  refused_of (is_refused same s r) o = inl s
-  refused_of (meets_limit same s (inl h)) o = absurd (checked_not_refused h o)
-  refused_of (meets_limit same s (inr h)) o = absurd (checked_not_refused h o)
+  refused_of c o = grind (arith, means_something, moved)
 
   -- Where a run within the limits of its plan is against P, the end is told as a limit, or memory
   -- ran out.
   limit_of : (P : Command → Checked → Type 0)
       → ((c : Command) (q : Checked) → IsCheckedCommand c q → IsRunnable c q before
       → OfChecked c (P c) → ⊥) → HasCourse → OfQuery words P → IsEither 6 7 status
-  limit_of P against (takes_boxes h) o = search (arith)
-  limit_of P against (lacks_memory same s) o = inr s
-  limit_of P against (lacks_command same s none) o = absurd (means_something o none)
-  limit_of P against (is_refused same s r) o = absurd (checked_not_refused o r)
-  limit_of P against (meets_limit same s l) o = inl s
+  limit_of P against h o = grind (arith, means_something, moved)
 
   -- whatever the status, the rack has its boxes again
   left_of : HasCourse → LeavesBoxes words before after status

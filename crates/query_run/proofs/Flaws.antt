@@ -1,5 +1,5 @@
 -- A lawful box never lets a plan's graph grow by a growth that has a flaw.
-use Rattle.query_run.proofs.Imports.{All, All-append, All-cons, All-from_get_or, All-get_or, All-nil, AllByRecursion, Birth, Bool, BoxPicture, Checked, Command, DraftNode, Edge, FlawedWith, GraphBegins, GrowthForm, IsAdded, IsBirth, IsListGrowth, IsRunnable, KeepsBehind, Kind, List, MayGrow, Me, New, None, Option, PartSpec, Reserve, RunsPlan, Some, Spec, Who, Wire, [], and_parts, ap, arith, births_of, born_wires, both_ways, box_at, cases_lt, cond, end_node, eq-eqb, false, few-paths-in, flat_map, get_or, grew-list, grown_kind, grown_ranks, grown_wires, growth_flaw, growth_list, growths_of, has_wrong_end, holds_node, inl, input_count, inr, is_named, is_reserved, is_some, kept_growths, kind_of, kinds_for, kinds_reserved, le-leb, left_of, length, list-growth-has-no-flaw, list_any, list_growth, list_source, ltb-true, map, new_wire, new_wires, no_wire, not-false, or_parts, paths_in, rank_at, refl, reserve_of, reserved_nodes, reserves_from, set_ranks-other, sources-left, spec_at, specs_in, subst, sum_by, sum_by-cons, sym, take, true, wire_at, ℕ, ◌++◌, ◌+◌, ◌<◌, ◌==◌, ◌∙◌, ◌∷◌, ◌≡◌, ◌≢◌, ◌≤◌}
+use Rattle.query_run.proofs.Imports.{All, All-append, All-cons, All-from_get_or, All-get_or, All-nil, AllByRecursion, Birth, Bool, BoxPicture, Checked, Command, DraftNode, Edge, FlawedWith, GraphBegins, GrowthForm, IsAdded, IsBirth, IsListGrowth, IsRunnable, KeepsBehind, Kind, List, MayGrow, None, Option, PartSpec, Reserve, RunsPlan, Some, Spec, Who, Wire, [], and_parts, ap, arith, births_of, born_wires, both_ways, box_at, cases_lt, cond, end_node, eq-eqb, false, few-paths-in, flat_map, get_or, grew-list, grown_kind, grown_ranks, grown_wires, growth_flaw, growth_list, growths_of, has_wrong_end, holds_node, inl, input_count, inr, is_named, is_reserved, is_some, kept_growths, kind_of, kinds_for, kinds_reserved, le-leb, left_of, length, length-map, list-growth-has-no-flaw, list_any, list_growth, list_source, ltb-true, new_wire, new_wires, nil_from_length, no_wire, not-false, or_parts, paths_in, rank_at, refl, reserve_of, reserved_nodes, reserves_from, set_ranks-other, sources-left, spec_at, specs_in, subst, sum_by, sum_by-cons, sym, take, true, wire_at, ℕ, ◌++◌, ◌+◌, ◌<◌, ◌==◌, ◌∙◌, ◌∷◌, ◌≡◌, ◌≢◌, ◌≤◌}
 use Rattle.query_run.proofs.Grown.{blank-kept, ended-within, formed, kept-kind, list-reads, none-kept-at, ranked-list, ranked-within, unfed-first}
 use Rattle.query_run.proofs.Plans.{AreCopies, RanCopies, loaded-kind}
 use Rattle.query_run.proofs.Kept.{Away, away-held, none-placed, others-all}
@@ -15,8 +15,7 @@ Ends P w = P w.from × P w.to
 module _ (P : ℕ → Type 0) (n : ℕ) (places : List ℕ) (own : P n)
     (new : (k : ℕ) → k < length places → P (get_or places k 0)) where
   named-end : (w : Who) → is_named (length places) w ≡ true → P (end_node n places w)
-  named-end Me h = own
-  named-end (New k) h = new k (ltb-true k (length places) h)
+  named-end w h = grind (arith, ltb-true)
 
   new-ends : (edges : List Edge) → list_any (has_wrong_end (length places)) edges ≡ false
       → All (Ends P) (new_wires n places edges)
@@ -70,15 +69,11 @@ module _ {c : Command} {q : Checked} {before after : List BoxPicture} {nodes : L
     (FlawedWith (RunsPlan (specs_in nodes) (kinds_reserved (reserves_from 0 nodes)) before after)
     k))
   where
-    abbrev run : RunsPlan (specs_in nodes) (kinds_reserved (reserves_from 0 nodes)) before after
-        g.holds.ended
-    run = g.holds.runs
-
     abbrev ended : List BoxPicture
     ended = g.holds.ended
 
     ran : RanCopies c q before after nodes ended
-    ran = record { copies = copies; runnable = runnable; run = run }
+    ran = record { copies = copies; runnable = runnable; run = g.holds.runs }
 
     abbrev node : ℕ
     node = g.holds.node
@@ -107,18 +102,13 @@ module _ {c : Command} {q : Checked} {before after : List BoxPicture} {nodes : L
 
       -- it grew by this growth alone
       none-before : births_of node births ≡ []
-      none-before = map-nil births (none-of-it (growths_of node births) refl)
+      none-before =
+          nil_from_length (births_of node births) (sym (length-map (births_of node births) _)
+          ∙ ap (λ l. length l) (none-of-it (growths_of node births) refl))
         where
           none-of : (b : Bool) → cond b (growth_list None) [] ≡ []
           none-of true = refl
           none-of false = refl
-
-          map-nil : (bs : List Birth) → growths_of node bs ≡ [] → births_of node bs ≡ []
-          map-nil bs e = go (births_of node bs) e
-            where
-              go : (l : List Birth) → map (λ (b : Birth). b.growth) l ≡ [] → l ≡ []
-              go [] e = refl
-              go (b ∷ l) e = absurd cc
 
           now : kept_growths (box_at grown node) ≡ []
           now = ap (λ o. cond (is_some (box_at grown node).spec) (growth_list o) [])
@@ -244,16 +234,13 @@ module _ {c : Command} {q : Checked} {before after : List BoxPicture} {nodes : L
         no-flaw =
             let none = ap (λ (bs : List Birth). sum_by (λ (b : Birth). length b.growth.edges) bs)
             none-before in
-            let nodes_are = reserve.nodes in
-            let edges_are = reserve.edges in
             list-growth-has-no-flaw (grown_ranks (formed nodes).ranks births) all_wires
             (left_of R ended births node) node first 32 list paths g.holds.bad.graph
             (let rank = rank-stays node births (formed nodes).ranks (all-away node away-list) in
             let above = ranked-list ran node own in omega (arith, rank, above))
-            (rw nodes_are (sources-left ended [] first 32 (λ j lt.
+            (rw reserve.nodes (sources-left ended [] first 32 (λ j lt.
             let w = past j lt in
-            let other : first + j ≢ node = λ e. (let le = w.0 in let less = own in
-            absurd (omega (arith, le, e, less))) in
+            let other : first + j ≢ node = λ e. absurd (omega (arith, w.0, e, own)) in
             let at = g.holds.bad.others (first + j) other in (
               refl,
               (
@@ -261,11 +248,9 @@ module _ {c : Command} {q : Checked} {before after : List BoxPicture} {nodes : L
                 kept-kind ran (first + j) w.0 (ended-within ran (first + j) w.1),
               ),
             ))))
-            few (omega (arith, few, none, edges_are)) few unfed
+            few (omega (arith, few, none, reserve.edges)) few unfed
             (λ e j lt less. unwired e j lt (omega (arith, less, few)))
-            (λ j lt e.
-            let le = (past j (omega (arith, lt, few))).0 in
-            let less = own in absurd (omega (arith, le, e, less)))
+            (λ j lt e. absurd (omega (arith, (past j (omega (arith, lt, few))).0, e, own)))
 
       flawed : ⊥
       flawed = go box.spec refl (g.holds.bad.bad.may_grow lawful)

@@ -1,51 +1,21 @@
 -- A plan's graph that ran over an honest rack has grown by its lists, and each box served the part
 -- that is noted of it.
 pub use Rattle.query_run.specs.Steps.{formed}
-use Rattle.query_run.proofs.Imports.{AreBirths, AreLawfulOver, AreStarting, Birth, Bool, BoxPicture, Checked, Command, Contains, DraftNode, FileHas, FileRead, Files, GrowsLawfully, GrowthForm, IsAboveSources, IsListGrowth, IsListNamed, IsPartNamed, IsPlanGraph, IsSourceKind, KeepsBehind, Kind, List, NoFile, None, Option, PartFile, PartName, PartSpec, PartsFile, ReadsNamed, Reserve, ServesNamed, Some, SourceHas, Spec, StartsAs, TakeBlanks, UsedPart, [], ap, arith, at-recursion, births_of, blanks_of, both_ways, box_at, cases_Bool, cases_lt, collect_node, ended-later, eq-eqb, false, few-paths-in, file_bytes, file_place, file_read, filter-append, form-csv, form_at, form_kind, get_or, get_or-append-add, get_or-map, get_or-range_with_len, get_or_append_left, get_or_default, get_or_past, grown_kind, growths_of, holds_node, inl, input_count, inr, is_place, is_some, kept_growths, kind_of, kinds_for, kinds_in, kinds_of, kinds_reserved, le-leb, length, length-append, length-map, length-range_with_len, length-replicate, list_source, listed_part, map, name_at, nil_from_length, no_box, no_spec, part-form, part_place, part_source, paths_in, places-listed, places_for, places_in, plan-graph, plan-ranked, plan_of, range_with_len, rank_at, refl, replicate, reserve_of, reserved_nodes, reserves_from, row_of, slice_get, sources, sources-left, spec_at, specs_in, subst, sym, take, taken-kinds, taken-length, taken_for, true, unboxed, used_part, used_parts, ℕ, ⊤, ◌++◌, ◌+◌, ◌-◌, ◌<◌, ◌==◌, ◌∙◌, ◌∷◌, ◌≡◌, ◌≢◌, ◌≤◌, run-count}
-use Rattle.query_run.proofs.Kept.{Away, IsKeptFor, IsTaken, away-held, kept-for, kept-place, none-placed, numbered-contains, others-all, slice-left, slice-right, taken-by, takes-at}
-use Rattle.query_run.proofs.Plans.{RanCopies, IsUsedList, IsUsedPart, ended-files, ended-lawful, list-named, list-ports, loaded-kind, part-named, place-at, ran-at, reads-named, small_plan, source-at, stock}
-use Rattle.query_run.proofs.Reserves.{IsListReserve, held-of, holds-one, holds-within, kept-of, kept-sources, kinds-length, past-of}
+use Rattle.query_run.proofs.Imports.{AreBirths, AreLawfulOver, AreStarting, Birth, Bool, BoxPicture, Checked, Command, Contains, DraftNode, Files, GrowsLawfully, GrowthForm, IsAboveSources, IsKeptFor, IsListGrowth, IsListNamed, IsPlanGraph, IsSourceKind, KeepsBehind, List, None, Option, PartName, PartSpec, ReadsNamed, Reserve, ServesNamed, Some, SourceHas, Spec, StartsAs, TakeBlanks, UsedPart, [], ap, arith, at-recursion, births_of, blanks_of, both_ways, box_at, cases_Bool, cases_lt, collect_node, ended-later, eq-eqb, false, few-paths-in, file_bytes, filter-append, form-csv, form_at, form_kind, get_or, get_or-map, get_or-range_with_len, get_or_append_left, get_or_default, get_or_past, grown_kind, growths_of, holds_node, inl, input_count, inr, is_place, is_some, kept_growths, kind_of, kinds_for, kinds_in, le-leb, length, length-append, length-map, length-range_with_len, length-replicate, list_source, listed_part, map, name_at, nil_from_length, no_spec, part-form, part_place, part_source, paths_in, places-listed, places_for, places_in, plan-graph, plan-ranked, plan_of, range_with_len, rank_at, refl, replicate, reserve_of, reserved_nodes, reserves_from, row_of, slice_get, sources, sources-left, spec_at, specs_in, subst, sym, take, taken-kinds, taken-length, taken_for, true, unboxed, used_part, used_parts, ℕ, ◌++◌, ◌+◌, ◌<◌, ◌==◌, ◌∙◌, ◌∷◌, ◌≡◌, ◌≢◌, ◌≤◌, run-count}
+use Rattle.query_run.proofs.Pulling.{kind-kept}
+use Rattle.query_run.proofs.Kept.{Away, IsTaken, away-held, kept-for, kept-place, none-placed, numbered-contains, others-all, slice-left, slice-right, taken-by, takes-at}
+use Rattle.query_run.proofs.Plans.{IsUsedList, IsUsedPart, RanCopies, ReadsItsName, ended-files, ended-lawful, first-named, list-named, list-ports, loaded-kind, part-named, place-at, ran-at, reads-named, small_plan, source-at, stock}
+use Rattle.query_run.proofs.Reserves.{IsListReserve, held-of, holds-one, holds-within, kept-of, kept-sources, kinds-length, past-of, grower-within}
 
 -- the name that is noted of a box
 abbrev pub names_of : Command → List DraftNode → ℕ → PartName
 names_of c nodes n =
     name_at c.tables (slice_get (places_in (specs_in nodes) (reserves_from 0 nodes)) n)
 
-abbrev pub HasItsName : Command → Checked → Files → PartName → FileRead → Type 0
-HasItsName c q files name NoFile = ⊤
-HasItsName c q files name (PartFile part) =
-    IsPartNamed c q files name (used_part part) × (part.header ≡ c.header)
-HasItsName c q files name (PartsFile list) = IsListNamed c q name 0 list.path
-
--- what a box reads has this name
-abbrev pub ReadsItsName : Command → Checked → Files → PartName → Option Spec → Type 0
-ReadsItsName c q files name o = HasItsName c q files name (file_read o)
-
 kinds-count : (nodes : List DraftNode)
     → length (kinds_for nodes) ≡ length nodes + reserved_nodes (reserves_from 0 nodes)
 kinds-count nodes =
     search (arith, length-append, length-map, kinds-length)
-
--- boxes of these kinds are sources behind the nodes
-pub kind-kept : (nodes : List DraftNode) (boxes : List BoxPicture)
-    → kinds_in boxes ≡ kinds_for nodes → (n : ℕ) → length nodes ≤ n → n < length boxes
-    → (box_at boxes n).kind ≡ grown_kind
-unfolding box_at
-kind-kept nodes boxes e n le lt =
-    let first : length (kinds_of (specs_in nodes)) ≡ length nodes =
-    length-map (specs_in nodes) kind_of ∙ length-map nodes (λ (n : DraftNode). n.spec) in
-    let rs : List Kind = kinds_reserved (reserves_from 0 nodes) in
-    let place : n ≡ length (kinds_of (specs_in nodes)) + (n - length nodes) =
-    omega (arith, le, first) in
-    let len = length-map boxes (λ (p : BoxPicture). p.kind) in
-    let all = ap (λ (l : List Kind). length l) e in
-    let count = kinds-count nodes in
-    sym (get_or-map (λ (p : BoxPicture). p.kind) boxes n no_box grown_kind lt)
-    ∙ ap (λ l. get_or l n grown_kind) e
-    ∙ ap (λ m. get_or (kinds_for nodes) m grown_kind) place
-    ∙ get_or-append-add (kinds_of (specs_in nodes)) rs (n - length nodes) grown_kind
-    ∙ kept-sources (λ k. k ≡ grown_kind) refl 0 nodes (n - length nodes) grown_kind
-    (omega (arith, le, lt, len, all, count, kinds-length (reserves_from 0 nodes)))
 
 -- each node and each that is kept has a rank
 pub ranked-within : (nodes : List DraftNode) (n : ℕ)
@@ -70,10 +40,7 @@ module _ {c : Command} {q : Checked} {before after : List BoxPicture} {nodes : L
   kept = reserved_nodes (reserves_from 0 nodes)
 
   ended-count : length ended ≡ length nodes + kept
-  ended-count =
-      let count = run-count specs (kinds_reserved (reserves_from 0 nodes)) before after ended x.run
-      in
-      grind (arith, count, length-map, kinds-length)
+  ended-count = grind (arith, run-count x.run, length-map, kinds-length)
 
   abbrev names : ℕ → PartName
   names = names_of c nodes
@@ -90,11 +57,9 @@ module _ {c : Command} {q : Checked} {before after : List BoxPicture} {nodes : L
   unfolding spec_at
   named-kept n f =
       let each = length-map nodes (λ (n : DraftNode). n.spec) in
-      let placed = length-map specs part_place in
-      let is = f.is in
       let at : n ≡ length (map part_place specs)
       + (reserved_nodes (reserves_from 0 (take f.lister nodes)) + f.place) =
-      omega (arith, is, each, placed) in
+      omega (arith, f.is, each, length-map specs part_place) in
       ap (name_at c.tables)
       (ap (λ k. slice_get (places_in specs (reserves_from 0 nodes)) k) at
       ∙ slice-right (map part_place specs) _ _
@@ -116,34 +81,27 @@ module _ {c : Command} {q : Checked} {before after : List BoxPicture} {nodes : L
     | inl less ↦
         let r = ran-at x n less in
         let kind : IsSourceKind (kind_of (spec_at specs n)) =
-        subst IsSourceKind (r.kind ∙ sym r.of_kind) source in
+        subst IsSourceKind (r.later.kind ∙ sym r.of_kind) source in
         inl (subst (λ name. ReadsNamed c q name (spec_at specs n)) (sym (named-first n less))
         (reads-named x.copies n less kind))
     | inr past ↦
         let f = kept-list n past lt in
-        inr (record {
-          lister = f.lister;
-          list = f.list;
-          reads = f.reads;
-          place = f.place;
-          in_range = f.place_in_range;
-          is = f.is;
-          named = subst (λ name. IsListNamed c q name (f.place + 1) f.list.path)
-              (sym (named-kept n f))
-              (list-named x.copies f.list (used-list n f) (f.place + 1));
-        })
+        inr (
+          f,
+          subst (λ name. IsListNamed c q name (f.place + 1) f.list.path)
+              (sym (named-kept n f)) (list-named x.copies f.list (used-list n f) (f.place + 1)),
+        )
   ]
 
   -- what is kept for lists are sources
   pub kept-kind : (n : ℕ) → length nodes ≤ n → n < length ended
       → (box_at ended n).kind ≡ grown_kind
   kept-kind n le lt =
-      let len = taken-length (kinds_for nodes) before in
-      (ended-later specs (kinds_reserved (reserves_from 0 nodes)) before after ended x.run n
-      lt).kind
-      ∙ kind-kept nodes (taken_for (kinds_for nodes) before)
-      (taken-kinds (kinds_for nodes) before (stock x)) n le
-      (omega (arith, lt, ended-count, len, kinds-count nodes))
+      (ended-later x.run n lt).kind
+      ∙ kind-kept (λ k. k ≡ grown_kind) specs _ (taken_for (kinds_for nodes) before)
+      (taken-kinds (kinds_for nodes) before (stock x))
+      (kept-sources (λ k. k ≡ grown_kind) refl 0 nodes) n (rw length-map le)
+      (omega (arith, lt, ended-count, taken-length (kinds_for nodes) before, kinds-count nodes))
 
   pub ended-within : (n : ℕ) → n < length nodes + kept → n < length ended
   ended-within n lt = omega (arith, lt, ended-count)
@@ -168,10 +126,7 @@ module _ {c : Command} {q : Checked} {before after : List BoxPicture} {nodes : L
   -- the spec of a list's node
   pub list-reads : (n : ℕ) (list : PartSpec) → n < length nodes
       → (box_at ended n).spec ≡ Some (list_source list) → spec_at specs n ≡ list_source list
-  list-reads n list lt is =
-      let e : Some (spec_at specs n) ≡ Some (list_source list) =
-      sym (ran-at x n lt).spec ∙ is in
-      cc
+  list-reads n list lt is = grind (arith, ran-at x n lt)
 
   -- ---- over an honest rack
 
@@ -195,8 +150,7 @@ module _ {c : Command} {q : Checked} {before after : List BoxPicture} {nodes : L
 
     module _ (births : List Birth) (are : AreBirths (formed nodes).reserves started ended births)
         (files : Files) (honest : AreLawfulOver files before) where
-      pub grows : GrowsLawfully files nodes (formed nodes).wires (formed nodes).reserves started
-          ended births
+      pub grows : GrowsLawfully files nodes (formed nodes).reserves started ended births
       unfolding spec_at
       grows = record {
         are = are;
@@ -210,14 +164,14 @@ module _ {c : Command} {q : Checked} {before after : List BoxPicture} {nodes : L
             ∙ ap (λ s. Some s) (get_or-map (λ (n : DraftNode). n.spec) nodes n z no_spec lt
             ∙ ap (λ (n : DraftNode). n.spec) is);
         behind = λ n k held.
-            let w = holds-within k n (length nodes) (length (formed nodes).wires)
-            (reserves_from 0 nodes) held in
-            (w.0, let high = w.1 in omega (arith, high, ended-count));
+            let edges : ℕ = length (formed nodes).wires in
+            let low = grower-within k n 0 (length nodes) edges nodes held in (
+              omega (arith, low),
+              (holds-within k n (length nodes) edges (reserves_from 0 nodes)
+                  held).0,
+            );
         few = omega (arith, ended-count);
-        inputs_within = λ n le. graph.graph.inputs n
-            ∙ get_or_past (map (λ (z : DraftNode). z.takes) nodes) n 0 (rw length-map le);
-        outputs_within = λ n le. graph.graph.outputs n
-            ∙ get_or_past (map (λ (z : DraftNode). z.gives) nodes) n 0 (rw length-map le);
+        graph = graph.graph;
         lists_unfed = λ n list lt is.
             let ports = list-ports x.copies n list lt (list-reads n list lt is) in
             (graph.graph.inputs n ∙ ports.0, graph.graph.outputs n ∙ ports.1);
@@ -264,21 +218,24 @@ module _ {c : Command} {q : Checked} {before after : List BoxPicture} {nodes : L
         left : (k : ℕ) → k < 32 → ((box_at started (first + k)).spec ≡ None)
             × ((box_at started (first + k)).kind ≡ grown_kind)
         left k lt =
-            let w = past-of nodes edges m f.list f.in_range f.reads k lt in
-            let high = w.1 in (
+            let w = past-of nodes edges m f.list f.in_range f.reads k lt in (
               blank-kept (first + k) w.0 w.1,
-              kind-kept nodes started kinds_are (first + k) w.0
-                  (omega (arith, high, started-count)),
+              kind-kept (λ j. j ≡ grown_kind) specs _ started kinds_are
+                  (kept-sources (λ j. j ≡ grown_kind) refl 0 nodes) (first + k)
+                  (rw length-map w.0) (omega (arith, w.1, started-count)),
             )
 
-        taken : IsTaken R started ended births node
-        taken = elim (cases_Bool (is_place births node)) [
+        took : (t : IsTaken R started ended node) × (births ≡ t.earlier ++ t.birth ∷ t.later)
+        took = elim (cases_Bool (is_place births node)) [
           | inl new ↦ taken-by R started ended births node are.each new
           | inr old ↦
               let same : first + f.place ≡ node = sym at-place in
               let none = are.stay_blank node (rw same at (left f.place f.place_in_range).0) old in
               absurd (both_ways _ (ap is_some none) born)
         ]
+
+        abbrev taken : IsTaken R started ended node
+        taken = took.0
 
         abbrev birth : Birth
         birth = taken.birth
@@ -312,7 +269,7 @@ module _ {c : Command} {q : Checked} {before after : List BoxPicture} {nodes : L
         none-earlier =
             let one = at-most-one (box_at ended m) in
             let all = length-map (births_of m births) (λ (b : Birth). b.growth) in
-            let parts = ap (λ l. length (births_of m l)) taken.split
+            let parts = ap (λ l. length (births_of m l)) took.1
             ∙ ap (λ l. length l)
             (filter-append (λ (b : Birth). b.expander == m) taken.earlier (birth ∷ taken.later))
             ∙ length-append (births_of m taken.earlier) (births_of m (birth ∷ taken.later)) in
@@ -328,8 +285,7 @@ module _ {c : Command} {q : Checked} {before after : List BoxPicture} {nodes : L
         blanks : blanks_of started ([] ++ taken.earlier) (reserve_of R birth.expander).first_node
             (reserve_of R birth.expander).nodes ≡ sources first 32
         blanks =
-            let few = reserve.nodes in
-            rw (expander, few) (sources-left started taken.earlier first 32 (λ k lt. (
+            rw (expander, reserve.nodes) (sources-left started taken.earlier first 32 (λ k lt. (
               none-placed (first + k) taken.earlier (others-all R started ended m (Away (first + k))
                   (away-held R started ended one-holder m (first + k) (held k lt)) taken.earlier
                   taken.each none-earlier),
@@ -339,7 +295,7 @@ module _ {c : Command} {q : Checked} {before after : List BoxPicture} {nodes : L
         places : birth.places ≡ range_with_len first (length paths)
         places =
             let t = takes-at R started ended [] taken.earlier birth taken.later
-            (subst (TakeBlanks R started []) taken.split are.take) in
+            (subst (TakeBlanks R started []) took.1 are.take) in
             t.1 ∙ ap (λ l. places_for (map form_kind birth.growth.specs) l t.0) blanks
             ∙ ap (λ (h : GrowthForm). places_for (map form_kind h.specs) (sources first 32) t.0)
             may.is
@@ -347,9 +303,8 @@ module _ {c : Command} {q : Checked} {before after : List BoxPicture} {nodes : L
 
         in-paths : taken.place < length paths
         in-paths =
-            let lt = taken.in_range in
             let len = ap (λ l. length l) places ∙ length-range_with_len first (length paths) in
-            omega (arith, lt, len)
+            omega (arith, taken.in_range, len)
 
         same-place : taken.place ≡ f.place
         same-place =
@@ -382,28 +337,12 @@ module _ {c : Command} {q : Checked} {before after : List BoxPicture} {nodes : L
               loaded = rw same-place at loaded;
             }
 
-      first-reads-its-name : (s : Spec) → SourceHas (IsUsedPart c q) (IsUsedList c q) s
-          → ReadsItsName c q files (name_at c.tables (Some (part_place s))) (Some s)
-      first-reads-its-name s u = each (file_read (Some s)) u
-        where
-          each : (r : FileRead) → FileHas (IsUsedPart c q) (IsUsedList c q) r
-              → HasItsName c q files (name_at c.tables (Some (file_place r))) r
-          each NoFile u = tt
-          each (PartFile part) u = (
-            part-named x.copies files (used_part part) u.table u.declared (u.among files),
-            u.header_is,
-          )
-          each (PartsFile list) u =
-              subst (λ k. IsListNamed c q
-              (name_at c.tables (Some (record { table = list.table; part = k })))
-              0 list.path) (sym u.part_is) (list-named x.copies list u 0)
-
       pub reads-its-name : (n : ℕ) → n < length ended
           → ReadsItsName c q files (names n) (box_at ended n).spec
       reads-its-name n lt = elim (cases_lt n (length nodes)) [
         | inl less ↦
             rw ((ran-at x n less).spec, named-first n less)
-            (first-reads-its-name (spec_at specs n) (source-at x.copies n less))
+            (first-named x.copies files n less)
         | inr past ↦ elim (cases_Bool (is_some (box_at ended n).spec)) [
           | inl born ↦
               let f = kept-list n past lt in

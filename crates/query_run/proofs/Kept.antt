@@ -1,5 +1,5 @@
 -- The boxes that are kept for lists: which part each of them serves, and which birth took it.
-use Rattle.query_run.proofs.Imports.{AllByRecursion, Birth, BoxPicture, ColumnType, Contains, DraftNode, IsBirth, List, PartPlace, PartSpec, PlanReserve, Reserve, Some, Spec, TakeBlanks, [], all_places, ap, append-nil, append_assoc, ap₂, arith, births_of, blanks_of, cases_Bool, cases_lt, eq-eqb, false, flat_map, flat_map-append, form_kind, get_or, get_or-map-range_with_len, holds_node, inl, inr, is_place, kept_places, kind_of, length, length-append, length-map-range_with_len, list_any, list_any-append, list_source, map, numbered_parts, part_place, place-of, places_for, refl, reserve_of, reserved_nodes, reserves_from, row_of, slice_get, slice_get-get_or, spec_at, spec_read, specs_in, suc, sym, take, true, zero, ℕ, ◌++◌, ◌+◌, ◌-◌, ◌<◌, ◌==◌, ◌∙◌, ◌∷◌, ◌≡◌, ◌≢◌, ◌≤◌}
+use Rattle.query_run.proofs.Imports.{AllByRecursion, Birth, BoxPicture, IsKeptFor, ColumnType, Contains, DraftNode, IsBirth, List, PartPlace, PartSpec, PlanReserve, Reserve, Some, Spec, TakeBlanks, [], all_places, ap, append-nil, append_assoc, ap₂, arith, births_of, blanks_of, cases_Bool, cases_lt, eq-eqb, false, flat_map, flat_map-append, form_kind, get_or, get_or-map-range_with_len, holds_node, inl, inr, is_place, kept_places, kind_of, length, length-append, length-map-range_with_len, list_any, list_any-append, list_source, map, numbered_parts, part_place, place-of, places_for, refl, reserve_of, reserved_nodes, reserves_from, row_of, slice_get, slice_get-get_or, spec_at, spec_read, specs_in, suc, sym, take, true, zero, ℕ, ◌++◌, ◌+◌, ◌-◌, ◌<◌, ◌==◌, ◌∙◌, ◌∷◌, ◌≡◌, ◌≢◌, ◌≤◌}
 use Rattle.query_run.proofs.Reserves.{kept-nodes, list_kept}
 
 -- ---- which list a box is kept for
@@ -7,16 +7,6 @@ use Rattle.query_run.proofs.Reserves.{kept-nodes, list_kept}
 list-of : (s : Spec) → (row_of (kind_of s)).reads_list ≡ true
     → (list : PartSpec) × (s ≡ list_source list)
 list-of s e = grind arith
-
--- behind so many nodes, node q is one of those that are kept for a list among these
-pub record IsKeptFor (n nodes : ℕ) (zs : List DraftNode) (q : ℕ) : Type 0 where
-  pub lister : ℕ
-  pub in_range : lister < length zs
-  pub list : PartSpec
-  pub reads : spec_at (specs_in zs) lister ≡ list_source list
-  pub place : ℕ
-  pub place_in_range : place < 32
-  pub is : q ≡ nodes + reserved_nodes (reserves_from n (take lister zs)) + place
 
 -- behind one node more, for which so many are kept
 kept-later : (n nodes behind k : ℕ) (z : DraftNode) (zs : List DraftNode) (q : ℕ)
@@ -122,11 +112,10 @@ pub numbered-contains : (t : ℕ) (types : List ColumnType) (k : ℕ) (paths : L
     (path : List ℕ) → j < length paths → get_or paths j path ≡ path
     → Contains (numbered_parts t types k paths)
     (record { table = t; part = j + k; types = types; path = path })
-numbered-contains t types k [] j path lt is = absurd (omega (arith, lt))
-numbered-contains t types k (p ∷ paths) zero path lt is = (0, omega arith, grind arith)
 numbered-contains t types k (p ∷ paths) (suc j) path lt is =
     let rest = numbered-contains t types (k + 1) paths j path (omega (arith, lt)) is in
     (suc rest.0, omega (arith, rest.1), grind (arith, rest.2))
+numbered-contains t types k paths j path lt is = grind arith
 
 -- no new node of the birth is this one
 abbrev pub Away : ℕ → Birth → Type 0
@@ -144,11 +133,10 @@ none-placed q (b ∷ births) h =
 
 module _ (R : List Reserve) (before after : List BoxPicture) where
   -- a birth took node q, after these births and before those
-  pub record IsTaken (births : List Birth) (q : ℕ) : Type 0 where
+  pub record IsTaken (q : ℕ) : Type 0 where
     pub earlier : List Birth
     pub birth : Birth
     pub later : List Birth
-    pub split : births ≡ earlier ++ birth ∷ later
     pub each : AllByRecursion (IsBirth R before after) earlier
     pub is_birth : IsBirth R before after birth
     pub place : ℕ
@@ -156,36 +144,28 @@ module _ (R : List Reserve) (before after : List BoxPicture) where
     pub is : get_or birth.places place 0 ≡ q
 
   pub taken-by : (births : List Birth) (q : ℕ) → AllByRecursion (IsBirth R before after) births
-      → is_place births q ≡ true → IsTaken births q
+      → is_place births q ≡ true → (t : IsTaken q) × (births ≡ t.earlier ++ t.birth ∷ t.later)
   taken-by [] q h e = absurd (cc)
   taken-by (b ∷ births) q h e = elim (cases_Bool (list_any (λ (k : ℕ). k == q) b.places)) [
     | inl here ↦
-        let p = place-of b.places q here in
-        record {
-          earlier = [];
-          birth = b;
-          later = births;
-          split = refl;
-          each = tt;
-          is_birth = h.0;
-          place = p.place;
-          in_range = p.in_range;
-          is = p.is;
-        }
+        let p = place-of b.places q here in (
+          record {
+            earlier = [];
+            birth = b;
+            later = births;
+            each = tt;
+            is_birth = h.0;
+            place = p.place;
+            in_range = p.in_range;
+            is = p.is;
+          },
+          refl,
+        )
     | inr none ↦
         let t = taken-by births q h.1
         (rw none at (sym (list_any-append (λ (k : ℕ). k == q) b.places (all_places births)) ∙ e)) in
-        record {
-          earlier = b ∷ t.earlier;
-          birth = t.birth;
-          later = t.later;
-          split = ap (λ l. b ∷ l) t.split;
-          each = (h.0, t.each);
-          is_birth = t.is_birth;
-          place = t.place;
-          in_range = t.in_range;
-          is = t.is;
-        }
+        let s : IsTaken q = t.0 in
+        (record s { earlier = b ∷ s.earlier; each = (h.0, s.each) }, ap (λ l. b ∷ l) t.1)
   ]
 
   pub takes-at : (e earlier : List Birth) (b : Birth) (later : List Birth)

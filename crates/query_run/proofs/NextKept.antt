@@ -38,6 +38,4 @@ pub behind-pushed : (nodes edges : ℕ) (rs : List PlanReserve) (i : ℕ) (r : P
     → n ≡ nodes + reserved_nodes (take i rs) → count ≡ length r.kinds
     → e ≡ edges + edges_kept (take i rs) → after ≡ reserves_behind nodes edges (take (i + 1) rs)
 behind-pushed nodes edges rs i r so_far after n count e lt is h push first len edge =
-    let next = behind-more nodes edges (take i rs) r in
-    let more = take_more rs i r lt in
-    cc
+    grind (arith, behind-more nodes edges (take i rs) r, take_more rs i r lt)

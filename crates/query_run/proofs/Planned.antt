@@ -1,5 +1,5 @@
 -- The graph that is run is that of the query's plan.
-use Rattle.query_run.proofs.Imports.{All, BoxPicture, Checked, Command, DraftNode, GivesText, GraphForm, HasStock, IsBlank, IsCheckedCommand, IsGraph, IsGraphOf, IsPlanned, IsRunnable, IsWithinLimits, KeepsBehind, LeavesRack, List, MakesText, MayRunPlan, PartPlace, Plan, PlanFails, PlanFailsFor, PlanFailure, PlanFault, PlanGraph, TableDecl, Tells, [], ap₂, arith, edges_kept, failure_of, kinds_for, kinds_reserved, kinds_taken, length, length-append, length-map, length-replicate, map, map-map, name_at, no_draft, node_specs, places_in, plan_ranks, replicate, reserved_nodes, reserves_behind, reserves_from, slice_get, specs_in, subst, sym, with_nodes, ℕ, ◌++◌, ◌+◌, ◌∙◌, ◌≡◌, ◌≤◌}
+use Rattle.query_run.proofs.Imports.{All, BoxPicture, Checked, Command, DraftNode, GivesText, HasStock, IsBlank, IsCheckedCommand, IsGraph, IsGraphOf, IsPlanned, IsRunnable, IsWithinLimits, KeepsBehind, LeavesRack, List, MakesText, MayRunPlan, PartPlace, Plan, PlanFailsFor, PlanFaultHolds, GraphBegins, RunsPlan, PlanFailure, PlanFault, PlanGraph, TableDecl, Tells, [], ap₂, arith, edges_kept, failure_of, kinds_for, kinds_reserved, kinds_taken, length, length-append, length-map, length-replicate, map, map-map, name_at, no_draft, node_specs, places_in, plan_ranks, reserved_nodes, reserves_from, slice_get, specs_in, subst, sym, with_nodes, ℕ, ◌+◌, ◌∙◌, ◌≡◌, ◌≤◌}
 use Rattle.query_run.proofs.Causes.{told-cause}
 use Rattle.query_run.proofs.Composing.{makes_text}
 use Rattle.query_run.proofs.Grown.{formed}
@@ -32,15 +32,6 @@ module _ {c : Command} {q : Checked} {p : Plan} (within : IsWithinLimits c)
     pub few-edges : length p.edges + edges_kept p.reserves ≤ 1024
     few-edges = grind (arith, few_kept, edges-as-nodes)
 
-    -- the graph that the code made is that of the nodes
-    made-form : (form : GraphForm)
-        → form.ranks ≡ plan_ranks p ++ replicate (length (kinds_reserved p.reserves)) 0
-        → form.wires ≡ p.edges
-        → form.reserves ≡ reserves_behind (length p.nodes) (length p.edges) p.reserves
-        → form ≡ formed nodes
-    made-form form ranks wires reserves =
-        grind (arith, ranks_are, nodes_count, edges_count, kinds-length)
-
     some-nodes : 1 ≤ length nodes
     some-nodes = grind (arith, length-map, length-append)
 
@@ -51,10 +42,9 @@ module _ {c : Command} {q : Checked} {p : Plan} (within : IsWithinLimits c)
         let base : IsGraph ranks (with_nodes nodes no_draft).wires [] =
         subst (λ r. IsGraph r (with_nodes nodes no_draft).wires []) ranks_are
         (subst (λ w. IsGraph (plan_ranks p) w []) planned.laid.edges planned.sound.graph) in
-        let edges = planned.sound.few_edges in
         rw len at (keeps-behind ranks (with_nodes nodes no_draft).wires base nodes (sym len)
         (omega (arith, len, few_kept))
-        (omega (arith, edges, edges_count, few_kept, edges-as-nodes 0 nodes)))
+        (omega (arith, planned.sound.few_edges, edges_count, few_kept, edges-as-nodes 0 nodes)))
 
     -- the code's graph, with the kinds that it keeps
     module _ {g : PlanGraph} (made : IsGraphOf p g) where
@@ -68,7 +58,7 @@ module _ {c : Command} {q : Checked} {p : Plan} (within : IsWithinLimits c)
       of_kept = grind arith
 
       of_form : g.form ≡ formed nodes
-      of_form = made-form g.form made.ranks_are made.wires_are made.reserves_are
+      of_form = grind (arith, made, ranks_are, nodes_count, edges_count, kinds-length)
 
       one-each : length g.form.ranks ≡ length g.specs.items + length g.kept
       one-each =
@@ -114,7 +104,8 @@ module _ {c : Command} {q : Checked} {p : Plan} (within : IsWithinLimits c)
             → seen ≡ places → places ≡ places_in (node_specs p.nodes) p.reserves
             → Tells told (failure_of f (λ node. name_at tables (slice_get seen node)))
             → LeavesRack (kinds_taken g.specs.items g.kept) before after
-            → PlanFails g before after f → PlanFailsFor told c q before after
+            → PlanFaultHolds f (GraphBegins g.form (kinds_taken g.specs.items g.kept))
+            (RunsPlan g.specs.items g.kept before after) → PlanFailsFor told c q before after
         made-cause {after} f told {tables} {places}
             {seen} tables_are seen_are places_are tells left why =
             let of_places : seen ≡ places_in (specs_in nodes) (reserves_from 0 nodes) =

@@ -1,5 +1,5 @@
 -- The nodes of a checked query's plan, and the boxes that they take from a rack.
-use Rattle.query_run.proofs.Imports.{AllByRecursion, AreLawfulOver, BoxPicture, Checked, Command, Contains, Contains-append_right, DraftNode, FileHas, FileRead, Files, HasBoxes, HasStock, IsCheckedCommand, IsListNamed, IsListOf, IsPartNamed, IsPartOf, IsQueryPlan, IsReadNamed, IsRunnable, IsSmall, IsSourceKind, IsStep, IsWithinLimits, Kind, KnownPorts, List, NamesFewPaths, NoFile, OfFile, OfPart, PartFile, PartSpec, PartsFile, PlanReserve, RanWith, ReadsNamed, RunsPlan, Some, SourceHas, Spec, TableDecl, UsedPart, [], ap, arith, at-recursion, both_ways, box_at, boxes-counted, boxes_for, boxes_reserved, cases_lt, collect_node, cond, count_by, ended-later, file_place, file_read, flat_map, forms, get_or, get_or-map, get_or_default, in-front, inl, inr, is-small, is_some, join_use, joined-parts, kind_of, kinds-counted, kinds-same, kinds_for, kinds_of, kinds_reserved, length, length-map, list_source, map, name_at, name_of, part_place, parts_used, plan-needs, plan-steps, plan_nodes, plan_of, query-plan, refl, reserves-same, reserves_from, same_kind, slice_get, spec_at, specs_in, subst, sum_by, sum_by-append, sum_by-cons, sym, table-parts, taken-has, taken_at, true, used_part, used_parts, used_tables, ℕ, ◌<◌, ◌∙◌, ◌∷◌, ◌≡◌, ⊤}
+use Rattle.query_run.proofs.Imports.{AllByRecursion, AreLawfulOver, BoxPicture, Checked, Command, Contains, Contains-append_right, DraftNode, FileHas, FileRead, Files, HasBoxes, HasStock, IsCheckedCommand, IsListNamed, IsListOf, IsPartNamed, IsPartOf, IsQueryPlan, IsReadNamed, IsRunnable, IsSmall, IsSourceKind, IsStep, IsWithinLimits, Kind, List, NamesFewPaths, NoFile, OfFile, OfPart, Option, PartFile, PartName, PartSpec, PartsFile, PlanReserve, RanWith, ReadsNamed, RunsPlan, Some, SourceHas, Spec, TableDecl, UsedPart, [], ap, arith, at-recursion, both_ways, box_at, boxes-counted, boxes_for, boxes_reserved, cases_lt, collect_node, count_by, ended-later, file_place, file_read, flat_map, forms, get_or, get_or-map, get_or_default, in-front, is-small, join_use, joined-parts, kind_of, kinds-counted, kinds-same, kinds_for, kinds_reserved, length, length-map, list_source, map, name_at, name_of, part_place, parts_used, plan-needs, plan-steps, plan_nodes, plan_of, query-plan, refl, reserves-same, reserves_from, same_kind, slice_get, slice_get-get_or, slice_get-map, spec_at, specs_in, subst, sum_by, sum_by-append, sum_by-cons, sym, table-parts, taken-has, taken_at, true, used_part, used_parts, used_tables, ℕ, ◌<◌, ◌∙◌, ◌∷◌, ◌≡◌, ⊤}
 use Rattle.query_run.proofs.Commands.{typed_by_tables}
 
 -- a source's spec reads a file
@@ -28,15 +28,14 @@ plan_stock c q nodes boxes same enough =
     steps = plan_nodes (plan_of c q)
 
     stock : HasStock (kinds_for steps) boxes
-    stock k = omega (
+    stock k = grind (
       arith,
-      sum_by-append (λ (j : Kind). cond (same_kind j k) 1 0) (kinds_of (specs_in steps))
-          (kinds_reserved (reserves_from 0 steps)),
+      sum_by-append,
+      steps,
       reserved-counted k (reserves_from 0 steps),
       kinds-counted k steps,
       boxes-counted k 0 steps,
       plan-needs q c.tables c.threads c.chunk_rows c.header k,
-      enough k,
     )
 
 -- ---- the parts that nodes read
@@ -49,6 +48,16 @@ IsUsedPart c q part = IsPartOf c.header c.tables (λ files. used_parts files c.t
 abbrev pub IsUsedList : Command → Checked → PartSpec → Type 0
 IsUsedList c q list =
     IsListOf c.header c.tables (used_tables q) (λ files. used_parts files c.tables q) list
+
+abbrev pub HasItsName : Command → Checked → Files → PartName → FileRead → Type 0
+HasItsName c q files name NoFile = ⊤
+HasItsName c q files name (PartFile part) =
+    IsPartNamed c q files name (used_part part) × (part.header ≡ c.header)
+HasItsName c q files name (PartsFile list) = IsListNamed c q name 0 list.path
+
+-- what a box reads has this name
+abbrev pub ReadsItsName : Command → Checked → Files → PartName → Option Spec → Type 0
+ReadsItsName c q files name o = HasItsName c q files name (file_read o)
 
 -- copies of the nodes of a checked query's plan
 pub record AreCopies (c : Command) (q : Checked) (nodes : List DraftNode) : Type 0 where
@@ -92,21 +101,14 @@ module _ {c : Command} {q : Checked} {nodes : List DraftNode} (copies : AreCopie
   -- what a node reads is a part, or a list, that the query uses
   pub source-at : (n : ℕ) → n < length nodes
       → SourceHas (IsUsedPart c q) (IsUsedList c q) (spec_at (specs_in nodes) n)
-  source-at n lt =
-      subst (SourceHas (IsUsedPart c q) (IsUsedList c q)) (sym (spec-is n lt)) (step-at n lt).1
+  source-at n lt = grind (arith, spec-is n lt, step-at n lt)
 
   -- the ports of a list's node
   pub list-ports : (n : ℕ) (list : PartSpec) → n < length nodes
       → spec_at (specs_in nodes) n ≡ list_source list
       → (get_or (map (λ (z : DraftNode). z.takes) nodes) n 0 ≡ 0)
       × (get_or (map (λ (z : DraftNode). z.gives) nodes) n 0 ≡ 1)
-  list-ports n list lt is =
-      let z : DraftNode = get_or nodes n collect_node in
-      let h =
-      subst (λ s. KnownPorts s z.takes z.gives) (sym (spec-is n lt) ∙ is) (step-at n lt).0 in (
-        get_or-map (λ (z : DraftNode). z.takes) nodes n collect_node 0 lt ∙ h.0,
-        get_or-map (λ (z : DraftNode). z.gives) nodes n collect_node 0 lt ∙ h.1,
-      )
+  list-ports n list lt is = grind (arith, get_or-map, spec-is n lt, step-at n lt)
 
   -- a used list has the name that is noted of its part k
   pub list-named : (list : PartSpec) (u : IsUsedList c q list) (k : ℕ)
@@ -130,33 +132,41 @@ module _ {c : Command} {q : Checked} {nodes : List DraftNode} (copies : AreCopie
       (name_at c.tables (Some (record { table = p.table; part = p.part }))) p
   part-named files p table declared used = grind arith
 
-  -- a node of a source's kind reads the part or list with the name that is noted of it
+  -- what a node reads has the name that is noted of it
+  pub first-named : (files : Files) (n : ℕ) → n < length nodes
+      → ReadsItsName c q files (name_at c.tables (Some (part_place (spec_at (specs_in nodes) n))))
+      (Some (spec_at (specs_in nodes) n))
+  first-named files n lt = each (file_read (Some (spec_at (specs_in nodes) n))) (source-at n lt)
+    where
+      each : (r : FileRead) → FileHas (IsUsedPart c q) (IsUsedList c q) r
+          → HasItsName c q files (name_at c.tables (Some (file_place r))) r
+      each NoFile u = tt
+      each (PartFile part) u =
+          grind (arith, part-named files (used_part part) u.table u.declared (u.among files))
+      each (PartsFile list) u = grind (arith, list-named list u 0)
+
+  -- a node of a source's kind reads the part or list with that name
   pub reads-named : (n : ℕ) → n < length nodes → IsSourceKind (kind_of (spec_at (specs_in nodes) n))
       → ReadsNamed c q (name_at c.tables (Some (part_place (spec_at (specs_in nodes) n))))
       (spec_at (specs_in nodes) n)
-  reads-named n lt source = one (spec_at (specs_in nodes) n) (source-at n lt) source
+  reads-named n lt source =
+      each (file_read (Some s)) (λ files. first-named files n lt) (source-reads s source)
     where
-      one : (s : Spec) → SourceHas (IsUsedPart c q) (IsUsedList c q) s → IsSourceKind (kind_of s)
-          → ReadsNamed c q (name_at c.tables (Some (part_place s))) s
-      one s h source = each (file_read (Some s)) h (source-reads s source)
-        where
-          each : (r : FileRead) → FileHas (IsUsedPart c q) (IsUsedList c q) r
-              → OfFile r (λ part. ⊤)
-              → IsReadNamed c q (name_at c.tables (Some (file_place r))) r
-          each NoFile h some = absurd some
-          each (PartFile part) h some =
-              λ files. part-named files (used_part part) h.table h.declared (h.among files)
-          each (PartsFile list) h some =
-              subst (λ k. IsListNamed c q
-              (name_at c.tables (Some (record { table = list.table; part = k })))
-              0 list.path) (sym h.part_is) (list-named list h 0)
+      s : Spec
+      s = spec_at (specs_in nodes) n
+
+      each : (r : FileRead) → ((files : Files) → HasItsName c q files
+          (name_at c.tables (Some (part_place s))) r) → OfFile r (λ part. ⊤)
+          → IsReadNamed c q (name_at c.tables (Some (part_place s))) r
+      each NoFile h some = absurd some
+      each (PartFile part) h some = λ files. (h files).0
+      each (PartsFile list) h some = h []
 
 -- the place that was noted of a node is that of its spec
 pub place-at : (specs : List Spec) (n : ℕ) → n < length specs
     → slice_get (map part_place specs) n ≡ Some (part_place (spec_at specs n))
 unfolding spec_at
-place-at [] n lt = absurd (omega (arith, lt))
-place-at (s ∷ specs) n lt = grind (arith, place-at specs)
+place-at specs n lt = grind (arith, slice_get-map, slice_get-get_or)
 
 -- ---- the boxes as a run left them
 
@@ -175,9 +185,6 @@ module _ {c : Command} {q : Checked} {before after : List BoxPicture} {nodes : L
   abbrev specs : List Spec
   specs = specs_in nodes
 
-  abbrev kept : List Kind
-  kept = kinds_reserved (reserves_from 0 nodes)
-
   pub stock : HasStock (kinds_for nodes) before
   stock = plan_stock c q nodes before x.copies.same x.runnable.boxes
 
@@ -192,26 +199,18 @@ module _ {c : Command} {q : Checked} {before after : List BoxPicture} {nodes : L
   -- a loaded box is of the kind of its spec
   pub loaded-kind : (n : ℕ) (s : Spec) → n < length ended → (box_at ended n).spec ≡ Some s
       → kind_of s ≡ (box_at ended n).kind
-  loaded-kind n s lt is = elim (cases_lt n (length nodes)) [
-    | inl less ↦ ran-kind s _ _ _ (ran-at n less) is
-    | inr past ↦ elim (x.run.boxes.ran_kept n (rw length-map past)
-        (subst (λ k. n < k) x.run.boxes.count lt)) [
-          | inl still ↦ absurd (both_ways _ (ap is_some still.1) (ap is_some is))
-          | inr r ↦ ran-kind s r.0 _ _ r.1 is
-        ]
-  ]
+  loaded-kind n s lt is =
+      grind (arith, ran-kind, ran-at, length-map, both_ways, cases_lt n (length nodes))
 
   module _ (files : Files) (honest : AreLawfulOver files before) (n : ℕ)
       (lt : n < length ended) where
     pub ended-lawful : (box_at ended n).lawful ≡ true
-    ended-lawful = (ended-later specs kept before after ended x.run n lt).lawful
-        ∙ taken-has specs kept before after ended x.run (λ (p : BoxPicture). p.lawful ≡ true) stock
-        honest.lawful n lt
+    ended-lawful = (ended-later x.run n lt).lawful
+        ∙ taken-has x.run (λ (p : BoxPicture). p.lawful ≡ true) stock honest.lawful n lt
 
     -- a source tells the files of an honest rack
     pub ended-files : IsSourceKind (box_at ended n).kind → (box_at ended n).files ≡ Some files
     ended-files source =
-        let l = ended-later specs kept before after ended x.run n lt in
-        let told = taken-has specs kept before after ended x.run
-        (λ (p : BoxPicture). IsSourceKind p.kind → p.files ≡ Some files) stock honest.told n lt in
-        grind (arith, l, told)
+        let told = taken-has x.run (λ (p : BoxPicture). IsSourceKind p.kind → p.files ≡ Some files)
+        stock honest.told n lt in
+        grind (arith, ended-later x.run n lt, told)

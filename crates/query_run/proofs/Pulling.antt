@@ -1,5 +1,5 @@
 -- The rows that the boxes of a rack pulled in a run, kind by kind.
-use Rattle.query_run.proofs.Imports.{All, Bool, BoxPicture, HasFullCount, HasStock, Kind, List, PulledMore, RunsPlan, Some, Spec, [], ap, arith, both_ways, box_at, cases_Bool, cases_lt, cond, count_by, ended-later, false, first_box_of, get_or, get_or-append-add, get_or-map, inl, inr, is_of, kind_of, kinds_of, kinds_taken, left_after, length, length-append, length-map, no_box, pulled_by_boxes, pulled_since, refl, same_kind, some-rest, stock-here, stock-step, subst, suc, sym, taken-kinds, taken-length, taken_for, true, without_first_box, ℕ, ◌++◌, ◌+◌, ◌-◌, ◌<◌, ◌∙◌, ◌∷◌, ◌≡◌, ◌≤◌, ◌⊎◌}
+use Rattle.query_run.proofs.Imports.{All, BoxPicture, HasFullCount, HasStock, Kind, List, PulledMore, RunsPlan, Some, Spec, [], ap, arith, both_ways, box_at, cases_Bool, cases_lt, cond, count_by, ended-later, false, first_box_of, get_or, get_or-append-add, get_or-map, inl, inr, is_of, kind_of, kinds_in, kinds_of, kinds_taken, left_after, length, length-append, length-map, no_box, pulled_by_boxes, pulled_since, refl, same_kind, some-rest, stock-here, stock-step, subst, suc, sym, taken-kinds, taken_for, true, without_first_box, ℕ, ◌++◌, ◌+◌, ◌-◌, ◌<◌, ◌∙◌, ◌∷◌, ◌≡◌, ◌≤◌, ◌⊎◌}
 
 pulled-append : (k : Kind) (xs ys : List BoxPicture)
     → pulled_by_boxes k (xs ++ ys) ≡ pulled_by_boxes k xs + pulled_by_boxes k ys
@@ -38,13 +38,9 @@ pub record IsGivenMore (k : Kind) (p q r : BoxPicture) : Type 0 where
   pub given : r.kind ≡ p.kind
   pub pulled : is_of k p ≡ true → r.pulled ≡ p.pulled + q.notes.pulled
 
-share-more : (b : Bool) (m n o : ℕ) → (b ≡ true → o ≡ m + n)
-    → cond b o 0 ≡ cond b m 0 + cond b n 0
-share-more b m n o e = grind arith
-
 given-more : (k : Kind) (p q r : BoxPicture) → IsGivenMore k p q r
     → cond (is_of k r) r.pulled 0 ≡ cond (is_of k p) p.pulled 0 + cond (is_of k q) q.notes.pulled 0
-given-more k p q r h = grind (arith, share-more)
+given-more k p q r h = grind arith
 
 pub pulled-given : (k : Kind) (taken ended given : List BoxPicture) → length ended ≡ length taken
     → length given ≡ length taken
@@ -67,9 +63,26 @@ at-append : (xs ys : List BoxPicture) (n : ℕ)
 unfolding box_at
 at-append xs ys n = get_or-append-add xs ys n no_box
 
+-- what is true of the kinds that are kept is true of the boxes behind the nodes
+pub kind-kept : (P : Kind → Type 0) (specs : List Spec) (kept : List Kind)
+    (boxes : List BoxPicture) → kinds_in boxes ≡ kinds_taken specs kept → All P kept → (n : ℕ)
+    → length specs ≤ n → n < length boxes → P (box_at boxes n).kind
+unfolding box_at
+kind-kept P specs kept boxes e all n le lt =
+    let each : length (kinds_of specs) ≡ length specs = length-map specs kind_of in
+    let len = length-map boxes (λ (p : BoxPicture). p.kind) in
+    let count = ap (λ (l : List Kind). length l) e ∙ length-append (kinds_of specs) kept in
+    let place : n ≡ length (kinds_of specs) + (n - length specs) = omega (arith, le, each) in
+    let at : (box_at boxes n).kind ≡ get_or kept (n - length specs) no_box.kind =
+    sym (get_or-map (λ (p : BoxPicture). p.kind) boxes n no_box no_box.kind lt)
+    ∙ ap (λ l. get_or l n no_box.kind) e
+    ∙ ap (λ m. get_or (kinds_taken specs kept) m no_box.kind) place
+    ∙ get_or-append-add (kinds_of specs) kept (n - length specs) no_box.kind in
+    subst P (sym at) (all (n - length specs) no_box.kind (omega (arith, le, lt, len, count, each)))
+
 -- ---- over a rack
 
-module _ (specs : List Spec) (kept : List Kind) (before after ended : List BoxPicture)
+module _ {specs : List Spec} {kept : List Kind} {before after ended : List BoxPicture}
     (stock : HasStock (kinds_taken specs kept) before)
     (run : RunsPlan specs kept before after ended) (k : Kind)
     (others : All (λ j. same_kind j k ≡ false) kept) where
@@ -90,19 +103,8 @@ module _ (specs : List Spec) (kept : List Kind) (before after ended : List BoxPi
 
   -- a box that is kept for another node isn't of the kind
   other-kind : (n : ℕ) → length specs ≤ n → n < length taken → is_of k (box_at taken n) ≡ false
-  unfolding box_at
-  other-kind n le lt =
-      let each : length (kinds_of specs) ≡ length specs = length-map specs kind_of in
-      let all = length-append (kinds_of specs) kept in
-      let len = taken-length kinds before in
-      let place : n ≡ length (kinds_of specs) + (n - length specs) = omega (arith, le, each) in
-      let at : (box_at taken n).kind ≡ get_or kept (n - length specs) no_box.kind =
-      sym (get_or-map (λ (p : BoxPicture). p.kind) taken n no_box no_box.kind lt)
-      ∙ ap (λ l. get_or l n no_box.kind) (taken-kinds kinds before stock)
-      ∙ ap (λ m. get_or kinds m no_box.kind) place
-      ∙ get_or-append-add (kinds_of specs) kept (n - length specs) no_box.kind in
-      ap (λ j. same_kind j k) at
-      ∙ others (n - length specs) no_box.kind (omega (arith, le, lt, len, all, each))
+  other-kind = kind-kept (λ j. same_kind j k ≡ false) specs kept taken
+      (taken-kinds kinds before stock) others
 
   pub kept-other : (n : ℕ) → length specs ≤ n → n < length ended → is_of k (box_at ended n) ≡ false
   kept-other n le lt = grind (arith, same-count, ended-later, other-kind)
@@ -111,7 +113,7 @@ module _ (specs : List Spec) (kept : List Kind) (before after ended : List BoxPi
       → IsGivenMore k (box_at taken n) (box_at ended n) (box_at given n)
   each-given n lt =
       let in_ended : n < length ended = subst (λ m. n < m) same-count lt in
-      let l = ended-later specs kept before after ended run n in_ended in
+      let l = ended-later run n in_ended in
       let u = run.back.boxes.each n in_ended in
       record {
         ran = l.kind;
@@ -125,33 +127,17 @@ module _ (specs : List Spec) (kept : List Kind) (before after ended : List BoxPi
   -- the rack's boxes have pulled what they had, and what the taken ones pulled since they were
   -- loaded
   pub pulled-after : pulled_by_boxes k after ≡ pulled_by_boxes k before + pulled_since k ended
-  pulled-after =
-      let rack = ap (λ l. pulled_by_boxes k l) run.back.rack in
-      omega (
-        arith,
-        rack,
-        pulled-append k left given,
-        pulled-taken k kinds before stock,
-        pulled-given k taken ended given run.boxes.count (run.back.boxes.count ∙ run.boxes.count)
-            each-given,
-      )
+  pulled-after = grind (
+    arith,
+    each-given,
+    pulled-append k left given,
+    pulled-taken k kinds before stock,
+    pulled-given k taken ended given run.boxes.count (run.back.boxes.count ∙ run.boxes.count)
+        each-given,
+  )
 
   -- where the ended boxes of a kind pulled so many rows, or one has a full count
   pub kind-pulled : (n : ℕ) → (pulled_since k ended ≡ n) ⊎ HasFullCount k ended
       → PulledMore k before after (Some n)
   kind-pulled n (inl e) = let all = pulled-after in inl (omega (arith, all, e))
-  kind-pulled n (inr x) =
-      let lt = x.in_range in
-      let u = run.back.boxes.each x.place x.in_range in
-      let there : box_at after (length left + x.place) ≡ box_at given x.place =
-      ap (λ l. box_at l (length left + x.place)) run.back.rack ∙ at-append left given x.place in
-      let count : length after ≡ length left + length given =
-      ap (λ (l : List BoxPicture). length l) run.back.rack ∙ length-append left given in
-      let count_given = run.back.boxes.count in
-      inr (record {
-        place = length left + x.place;
-        in_range = omega (arith, count, count_given, lt);
-        of_kind = ap (λ (p : BoxPicture). is_of k p) there ∙ ap (λ j. same_kind j k) u.kind
-            ∙ x.of_kind;
-        full = ap (λ (p : BoxPicture). p.pulled) there ∙ u.counts.pulled ∙ x.full;
-      })
+  kind-pulled n (inr x) = grind (arith, at-append left given x.place, length-append left given)

@@ -1,5 +1,5 @@
 -- What a plan keeps for its lists: which nodes each reserve has, and that they make a graph.
-use Rattle.query_run.proofs.Imports.{All, All-append, All-nil, All-replicate, AreReserves, Bool, DraftNode, IsGraph, IsGraphSoFar, KeepsBehind, Kind, List, PartSpec, PlanReserve, Reserve, Wire, [], and_from, and_parts, ap, append-nil, append_assoc, arith, cases_Bool, cases_lt, edges_kept, eq-eqb, eqb-true, false, get_or, get_or-append_seam, get_or_append_left, graph-reserved, grown_kind, holds_node, inl, inr, is-gapless, is_reserved, kind_of, kinds_reserved, le-leb, leb-true, length, length-append, length-flat_map, length-replicate, list_any-append, list_source, lt-leb, lt-ltb, ltb-true, nat_le, ne_eqb, no_reserve, none-reserved, refl, replicate, replicate-append-replicate, reserve-added, reserve_at, reserve_of, reserved_edges, reserved_nodes, reserves_behind, reserves_from, row_of, spec_at, specs_in, subst, suc, sum_by-cons, sum_by_push, sym, take, true, wire_at, zero, ℕ, ◌&&◌, ◌++◌, ◌+◌, ◌<◌, ◌||◌, ◌∙◌, ◌∷◌, ◌≡◌, ◌≢◌, ◌≤◌}
+use Rattle.query_run.proofs.Imports.{All, All-append, All-nil, All-replicate, AreReserves, Bool, DraftNode, IsGraph, IsGraphSoFar, KeepsBehind, Kind, List, PartSpec, PlanReserve, Reserve, Wire, [], and_from, and_parts, ap, append-nil, append_assoc, arith, cases_Bool, cases_lt, edges_kept, eq-eqb, eqb-true, false, get_or-append_seam, get_or_append_left, graph-reserved, grown_kind, holds_node, inl, inr, is-gapless, is_reserved, kind_of, kinds_reserved, le-leb, leb-true, length, length-append, length-flat_map, length-replicate, list_any-append, list_source, lt-leb, lt-ltb, ltb-true, nat_le, ne_eqb, no_reserve, none-reserved, refl, replicate, replicate-append-replicate, reserve-added, reserve_at, reserve_of, reserved_edges, reserved_nodes, reserves_behind, reserves_from, row_of, spec_at, specs_in, subst, suc, sum_by-cons, sum_by_push, sym, take, true, wire_at, ℕ, ◌&&◌, ◌++◌, ◌+◌, ◌<◌, ◌||◌, ◌∙◌, ◌∷◌, ◌≡◌, ◌≢◌, ◌≤◌}
 
 -- what is kept for a list at node n
 abbrev pub list_kept : ℕ → PlanReserve
@@ -41,6 +41,16 @@ holds-within q n nodes edges (r ∷ rs) h =
     let rest = holds-within q n (nodes + length r.kinds) (edges + r.edges) rs in
     grind (arith, holds-from, kept-nodes r rs, rest)
 
+-- and what has the reserve is one of the nodes
+pub grower-within : (q m n nodes edges : ℕ) (zs : List DraftNode)
+    → holds_node q (reserve_of (reserves_behind nodes edges (reserves_from n zs)) m) ≡ true
+    → m < n + length zs
+grower-within q m n nodes edges [] h = absurd (holds-none q m h)
+grower-within q m n nodes edges (z ∷ zs) h =
+    let kept = grower-within q m (suc n) (nodes + 32) (edges + 32) zs in
+    let none = grower-within q m (suc n) nodes edges zs in
+    grind (arith, eqb-true, kept, none)
+
 -- no two nodes' reserves hold one node
 pub holds-one : (q m n nodes edges : ℕ) (rs : List PlanReserve)
     → holds_node q (reserve_of (reserves_behind nodes edges rs) m) ≡ true
@@ -66,13 +76,12 @@ pub list-reserve : (nodes edges n : ℕ) (zs : List DraftNode) (m k first : ℕ)
     → first ≡ nodes + reserved_nodes (reserves_from n (take m zs))
     → IsListReserve (reserve_of (reserves_behind nodes edges (reserves_from n zs)) k) first
 unfolding spec_at
-list-reserve nodes edges n [] m k first lt list at is = absurd (omega (arith, lt))
-list-reserve nodes edges n (z ∷ zs) zero k first lt list at is = grind (arith, eq-eqb)
 list-reserve nodes edges n (z ∷ zs) (suc m) k first lt list at is =
     let more = kept-nodes (list_kept n) (reserves_from (suc n) (take m zs)) in
     let here = list-reserve (nodes + 32) (edges + 32) (suc n) zs m k first in
     let later = list-reserve nodes edges (suc n) zs m k first in
     grind (arith, ne_eqb, more, here, later)
+list-reserve nodes edges n zs m k first lt list at is = grind (arith, eq-eqb)
 
 -- what is kept for the list that node m reads
 module _ (nodes : List DraftNode) (edges m : ℕ) (list : PartSpec) (own : m < length nodes)
@@ -91,8 +100,7 @@ module _ (nodes : List DraftNode) (edges m : ℕ) (list : PartSpec) (own : m < l
 
   pub past-of : (k : ℕ) → k < 32 → (length nodes ≤ its_reserve.first_node + k)
       × (its_reserve.first_node + k < length nodes + reserved_nodes (reserves_from 0 nodes))
-  past-of k lt = holds-within (its_reserve.first_node + k) m (length nodes) edges
-      (reserves_from 0 nodes) (held-of k lt)
+  past-of k lt = search (arith, holds-within, held-of)
 
 -- ---- the graph of a plan
 
@@ -155,15 +163,13 @@ module _ (ranks : List ℕ) (wires : List Wire) (base : IsGraph ranks wires []) 
       → ((j : ℕ) → j < length rs → (reserve_at rs j).node < n) → (j : ℕ)
       → j < length (rs ++ r ∷ []) → (reserve_at (rs ++ r ∷ []) j).node < suc n
   unfolding reserve_at
-  nodes-before n rs r own earlier j lt = elim (cases_lt j (length rs)) [
-    | inl less ↦
-        let before = earlier j less in
-        rw (get_or_append_left rs (r ∷ []) no_reserve j less) (omega (arith, before))
-    | inr past ↦
-        let last : length rs ≡ j = omega (arith, lt, past, length-append rs (r ∷ [])) in
-        subst (λ m. (get_or (rs ++ r ∷ []) m no_reserve).node < suc n) last
-        (rw (get_or-append_seam rs r [] no_reserve) (omega (arith, own)))
-  ]
+  nodes-before n rs r own earlier j lt = grind (
+    arith,
+    get_or_append_left,
+    cases_lt j (length rs),
+    length-append rs (r ∷ []),
+    get_or-append_seam rs r [] no_reserve,
+  )
 
   keeps-from : (n : ℕ) (zs : List DraftNode) (rs : List Reserve) (k p e all : ℕ) → Keeps rs k
       → n + length zs ≤ nodes → ((j : ℕ) → j < length rs → (reserve_at rs j).node < n)
@@ -172,8 +178,7 @@ module _ (ranks : List ℕ) (wires : List Wire) (base : IsGraph ranks wires []) 
       → e + edges_kept (reserves_from n zs) ≤ 1024
       → Keeps (rs ++ reserves_behind p e (reserves_from n zs)) all
   unfolding reserve_at
-  keeps-from n [] rs k p e all h le earlier first edge is few few_edges =
-      let same : k ≡ all = omega (arith, is) in rw append-nil (subst (λ m. Keeps rs m) same h)
+  keeps-from n [] rs k p e all h le earlier first edge is few few_edges = grind (arith, append-nil)
   keeps-from n (z ∷ zs) rs k p e all h le earlier first edge is few few_edges =
       elim (cases_Bool (row_of (kind_of z.spec)).reads_list) [
         | inr other ↦ rw other (keeps-from (suc n) zs rs k p e all h (omega (arith, le))
@@ -210,7 +215,6 @@ module _ (ranks : List ℕ) (wires : List Wire) (base : IsGraph ranks wires []) 
   unfolding wire_at
   keeps-behind zs count few few_edges =
       let kept : ℕ = reserved_nodes (reserves_from 0 zs) in
-      let none = length-append ranks [] in
       let start : Keeps [] 0 = record {
         reserves = subst (λ n. AreReserves n (length wires) wires [])
             (let e : nodes ≡ nodes + 0 = omega arith in e)
@@ -232,11 +236,9 @@ module _ (ranks : List ℕ) (wires : List Wire) (base : IsGraph ranks wires []) 
             | inl less ↦ base.gapless n less
             | inr past ↦ is-gapless wires n
                 (λ e i within to below.
-                let in_range = (base.so_far.edges e within).to_in_range in
-                absurd (omega (arith, in_range, to, past)))
+                absurd (omega (arith, (base.so_far.edges e within).to_in_range, to, past)))
                 (λ e o within from below.
-                let in_range = (base.so_far.edges e within).from_in_range in
-                absurd (omega (arith, in_range, from, past)))
+                absurd (omega (arith, (base.so_far.edges e within).from_in_range, from, past)))
           ];
         };
         reserves_fit = subst (λ n. AreReserves n (length wires) wires

@@ -1,37 +1,10 @@
 -- Why a run failed before its first byte was written, each cause once.
 use Rattle.std.specs.Prelude.{◌≡◌, ◌⊎◌, ℕ, ◌+◌, ◌<◌, ◌≤◌, false, List, length, slice_get, take, Some, None}
 use Rattle.std.specs.List.{Contains}
-use Rattle.outside_io.specs.Counts.{CountIncreased}
-use Rattle.query_model.specs.Names.{Files, UsedPart, bad_line_in, file_bytes, part_bad_place, used_parts, used_tables}
-use Rattle.query_model.specs.declared.query.PartsDecl.TheVariants.{ListFile}
-use Rattle.query_model.specs.declared.query.TableDecl.{TableDecl}
-use Rattle.query_model.specs.declared.checked.Checked.{Checked}
-use Rattle.query_model.specs.declared.checked.TableUse.TheVariants.{Declared}
-use Rattle.query_model.specs.declared.processor_spec.PartSpec.{PartSpec}
-use Rattle.query_model.specs.declared.processor_spec.Spec.{Spec}
-use Rattle.query_model.specs.declared.processor_spec.Kind.{Kind}
-use Rattle.command_line.specs.Words.{command_of}
-use Rattle.command_line.specs.declared.words.Command.{Command}
-use Rattle.proc_api.specs.Names.{BoxPicture, FileRead, IsLongFile, NoFile, PartFile, PartsFile, file_read, raised}
-use Rattle.exec_laws.specs.Names.{box_at, IsStuck}
-use Rattle.exec_laws.specs.declared.edges.StuckNode.{StuckNode}
-use Rattle.exec_laws.specs.declared.growth.GrowthFlaw.{GrowthFlaw}
-use Rattle.plan_laws.specs.Ended.{used_part}
-use Rattle.plan_laws.specs.declared.nodes.DraftNode.{DraftNode}
-use Rattle.pipeline_exec.specs.Ends.{EndsBadly, HasGrownByAll}
-use Rattle.plan_run.specs.Boxes.{spec_at}
-use Rattle.plan_run.specs.Plans.{GivesBack, GraphBegins, taken_at}
-use Rattle.query_run.specs.declared.ending.PartName.{PartName}
-use Rattle.query_run.specs.declared.ending.PartFailure.{PartFailure}
-use Rattle.query_run.specs.declared.ending.PartFailure.TheVariants as part
-use Rattle.query_run.specs.declared.ending.PlanFailure.{PlanFailure}
+use Rattle.query_run.specs.Prelude.{BoxPicture, Checked, Command, CountIncreased, Declared, DraftNode, EndsBadly, Failure, FileRead, Files, GivesBack, GraphBegins, GrowthFlaw, HasGrownByAll, IsLongFile, IsStuck, Kind, ListFile, NoFile, WorkFault, PartFile, PartName, PartSpec, PartsFile, PlanFailure, Spec, StuckNode, TableDecl, UsedPart, bad_line_in, box_at, command_of, file_bytes, file_read, first_crowded, list_source, part_bad_place, raised, reserved_nodes, reserves_from, spec_at, taken_at, used_part, used_parts, used_tables}
+use Rattle.proc_api.specs.declared.status.WorkFault.TheVariants as fault
 use Rattle.query_run.specs.declared.ending.PlanFailure.TheVariants as plan
-use Rattle.query_run.specs.declared.ending.Failure.{Failure}
 use Rattle.query_run.specs.declared.ending.Failure.TheVariants as failure
-use Rattle.plan_laws.specs.Boxes.{reserved_nodes}
-use Rattle.plan_laws.specs.Refusals.{first_crowded}
-use Rattle.plan_laws.specs.Shapes.{reserves_from}
-use Rattle.plan_laws.specs.Steps.{list_source}
 use Rattle.query_run.specs.Racks.{boxes_for, kinds_for, plan_kinds, specs_in, IsRunnable, IsShort, NamesFewPaths, OverFiles, RanPlan}
 use Rattle.query_run.specs.Commands.{IsRefusedFor, OfCommand, OfQuery}
 use Rattle.query_run.specs.Steps.{formed}
@@ -81,16 +54,21 @@ IsReadNamed c q name (PartsFile list) = IsListNamed c q name 0 list.path
 abbrev pub ReadsNamed : Command → Checked → PartName → Spec → Type 0
 ReadsNamed c q name s = IsReadNamed c q name (file_read (Some s))
 
--- the box of the node is one of those that are kept for a list: the Pth of them serves its part P
-pub record KeptNamed (c : Command) (q : Checked) (nodes : List DraftNode) (node : ℕ)
-    (name : PartName) : Type 0 where
+-- behind so many nodes, node q is one of those that are kept for a list among these, which are
+-- numbered from n on
+pub record IsKeptFor (n behind : ℕ) (nodes : List DraftNode) (q : ℕ) : Type 0 where
   pub lister : ℕ
+  pub in_range : lister < length nodes
   pub list : PartSpec
   pub reads : spec_at (specs_in nodes) lister ≡ list_source list
   pub place : ℕ
-  pub in_range : place < 32
-  pub is : node ≡ length nodes + reserved_nodes (reserves_from 0 (take lister nodes)) + place
-  pub named : IsListNamed c q name (place + 1) list.path
+  pub place_in_range : place < 32
+  pub is : q ≡ behind + reserved_nodes (reserves_from n (take lister nodes)) + place
+
+-- the box of the node is one of those that are kept for a list: the Pth of them serves its part P
+abbrev pub KeptNamed : Command → Checked → List DraftNode → ℕ → PartName → Type 0
+KeptNamed c q nodes node name = (k : IsKeptFor 0 (length nodes) nodes node)
+    × IsListNamed c q name (k.place + 1) k.list.path
 
 -- the box of the node serves the part or the list with this name
 abbrev pub ServesNamed : Command → Checked → List DraftNode → ℕ → PartName → Type 0
@@ -98,25 +76,27 @@ ServesNamed c q nodes node name =
     ReadsNamed c q name (spec_at (specs_in nodes) node) ⊎ KeptNamed c q nodes node name
 
 -- What the part or list with this name failed by, or its device, by the one box that served it,
--- before and after. The place, the line and the length go by the files that lawful sources tell.
-abbrev pub PartFailsFor : PartFailure → Command → Checked → PartName → (before : List BoxPicture)
+-- before and after. The place, the line and the length go by the files that lawful sources tell. No
+-- part is named for want of memory.
+abbrev pub PartFailsFor : WorkFault → Command → Checked → PartName → (before : List BoxPicture)
     → (taken given : BoxPicture) → Type 0
-PartFailsFor (part.Bad place) c q name before taken given = OverFiles before (λ files.
+PartFailsFor (fault.Bad place) c q name before taken given = OverFiles before (λ files.
     (p : UsedPart) × IsPartNamed c q files name p
     × (part_bad_place c.header p.types files p.path ≡ Some place))
-PartFailsFor (part.BadList line) c q name before taken given = OverFiles before (λ files.
+PartFailsFor (fault.BadList line) c q name before taken given = OverFiles before (λ files.
     (path : List ℕ) × IsListNamed c q name 0 path
     × (bad_line_in (file_bytes files path) ≡ Some line))
-PartFailsFor part.Read c q name before taken given = CountIncreased taken.faults given.faults
-PartFailsFor part.Stalled c q name before taken given =
+PartFailsFor fault.Read c q name before taken given = CountIncreased taken.faults given.faults
+PartFailsFor fault.Stalled c q name before taken given =
     raised taken.pendings 1000000 ≤ given.pendings
-PartFailsFor part.TooLong c q name before taken given = OverFiles before (λ files.
+PartFailsFor fault.TooLong c q name before taken given = OverFiles before (λ files.
     (path : List ℕ) × IsFileNamed c q files name path × IsLongFile files path)
+PartFailsFor fault.Memory c q name before taken given = ⊥
 
 -- ---- the run of a plan
 
 -- the plan ran, and the part with this name failed, or the device that it was read from
-pub record FailsAtPart (name : PartName) (f : PartFailure) (c : Command) (q : Checked)
+pub record FailsAtPart (name : PartName) (f : WorkFault) (c : Command) (q : Checked)
     (before after : List BoxPicture) : Type 0 where
   pub runnable : IsRunnable c q before
   pub ran : RanPlan c q before after

@@ -1,16 +1,6 @@
 -- What a command's text means: its checked query, or why it is refused.
 use Rattle.std.specs.Prelude.{◌≡◌, ℕ, List, map, Some, None}
-use Rattle.query_model.specs.Names.{IsDueRefusal, IsTypedQuery, from_types, IsChecked, use_of, query_tables, query_tree, refusal_of}
-use Rattle.query_model.specs.declared.query.Query.{Query}
-use Rattle.query_model.specs.declared.query.Refusal.{Refusal}
-use Rattle.query_model.specs.declared.query.Schema.{Schema}
-use Rattle.query_model.specs.declared.query.TableDecl.{TableDecl}
-use Rattle.query_model.specs.declared.checked.Checked.{Checked}
-use Rattle.query_model.specs.declared.checked.TableUse.{TableUse}
-use Rattle.sql_text.specs.Refusals.{IsReadFrom, IsRefused}
-use Rattle.command_line.specs.Words.{command_of}
-use Rattle.command_line.specs.declared.words.Command.{Command}
-use Rattle.query_run.specs.declared.ending.Refused.{Refused}
+use Rattle.query_run.specs.Prelude.{Checked, Command, IsChecked, IsDueRefusal, IsReadFrom, IsRefused, IsTypedQuery, Query, Refusal, Refused, Schema, TableDecl, TableUse, command_of, from_types, query_tables, query_tree, refusal_of, use_of}
 use Rattle.query_run.specs.declared.ending.Refused.TheVariants as refused
 
 abbrev pub schemas_of : Command → List Schema
@@ -34,11 +24,9 @@ pub record IsAccepted (command : Command) : Type 0 where
 
 -- a query is read from the command's text, not refused, and checked so
 pub record IsCheckedCommand (command : Command) (checked : Checked) : Type 0 where
-  pub query : Query
-  pub read : IsReadFrom query command.query
-  pub accepted : refusal_of query (schemas_of command) ≡ None
-  pub is : IsChecked query (schemas_of command) checked
-  pub typed : IsTypedQuery (from_types query (schemas_of command)) checked
+  pub accepted : IsAccepted command
+  pub is : IsChecked accepted.query (schemas_of command) checked
+  pub typed : IsTypedQuery (from_types accepted.query (schemas_of command)) checked
 
 -- the command has a checked query, and this is true of it
 pub record OfChecked (command : Command) (P : Checked → Type 0) : Type 0 where

@@ -1,75 +1,45 @@
 -- How a run ends: its status, and the line that tells of it.
 use Rattle.std.specs.Prelude.{◌⊎◌, ℕ, zero, suc, List, [], ◌∷◌, ◌++◌, codes, decimal, Option, Result, OnOk, OnErr}
-use Rattle.outside_io.specs.Growth.{GrewBy, GrewByPrefix}
-use Rattle.query_model.specs.declared.places.BadField.{BadField}
-use Rattle.query_model.specs.declared.query.Refusal.{Refusal}
+use Rattle.query_run.specs.Prelude.{Answered, BadField, Ending, Failed, Failure, GrewBy, GrewByPrefix, LinePiece, PartName, PlanFailure, Refusal, Refused, WriteFailed, kind_name}
 use Rattle.query_model.specs.declared.places.BadField.TheVariants as field
 use Rattle.query_model.specs.declared.query.Refusal.TheVariants as refuse
-use Rattle.proc_api.specs.KindRows.{kind_name}
-use Rattle.sql_text.specs.declared.limits.ParseRefusal.{ParseRefusal}
 use Rattle.sql_text.specs.declared.limits.ParseRefusal.TheVariants as parse
-use Rattle.query_run.specs.declared.ending.PartName.{PartName}
-use Rattle.query_run.specs.declared.ending.Refused.{Refused}
 use Rattle.query_run.specs.declared.ending.Refused.TheVariants as refused
-use Rattle.query_run.specs.declared.ending.PartFailure.{PartFailure}
-use Rattle.query_run.specs.declared.ending.PartFailure.TheVariants as part
-use Rattle.query_run.specs.declared.ending.PlanFailure.{PlanFailure}
+use Rattle.proc_api.specs.declared.status.WorkFault.TheVariants as fault
 use Rattle.query_run.specs.declared.ending.PlanFailure.TheVariants as plan
-use Rattle.query_run.specs.declared.ending.Failure.{Failure}
 use Rattle.query_run.specs.declared.ending.Failure.TheVariants as failure
-use Rattle.query_run.specs.declared.telling.LinePiece.{LinePiece}
 use Rattle.query_run.specs.declared.telling.LinePiece.TheVariants as piece
-use Rattle.query_run.specs.declared.ending.Ending.{Ending}
-use Rattle.query_run.specs.declared.ending.Ending.TheVariants.{Answered, Failed, WriteFailed}
 
 -- ---- statuses
 
--- the status of a refused text, and of one for which memory ran out
-abbrev pub text_status : ParseRefusal → ℕ
-text_status parse.Memory = 7
-text_status _ = 2
-
-abbrev pub query_status : Refusal → ℕ
-query_status refuse.Memory = 7
-query_status _ = 2
-
+-- the status of what is refused, and of that for which memory ran out
 abbrev pub refused_status : Refused → ℕ
-refused_status (refused.Text refusal) = text_status refusal
-refused_status (refused.Query refusal) = query_status refusal
-
-abbrev pub part_status : PartFailure → ℕ
-part_status (part.Bad place) = 3
-part_status (part.BadList line) = 3
-part_status part.Read = 4
-part_status part.Stalled = 4
-part_status part.TooLong = 6
+refused_status (refused.Text parse.Memory) = 7
+refused_status (refused.Text _) = 2
+refused_status (refused.Query refuse.Memory) = 7
+refused_status (refused.Query _) = 2
 
 abbrev pub plan_status : PlanFailure → ℕ
 plan_status (plan.Paths name count) = 6
 plan_status (plan.Stock s) = 6
-plan_status (plan.Part name f) = part_status f
+plan_status (plan.Part name (fault.Bad place)) = 3
+plan_status (plan.Part name (fault.BadList line)) = 3
+plan_status (plan.Part name fault.Read) = 4
+plan_status (plan.Part name fault.Stalled) = 4
+plan_status (plan.Part name fault.TooLong) = 6
+plan_status (plan.Part name fault.Memory) = 7
 plan_status (plan.Unlawful k) = 6
 plan_status plan.Memory = 7
 
-abbrev pub failure_status : Failure → ℕ
-failure_status failure.Usage = 1
-failure_status (failure.Refused r) = refused_status r
-failure_status (failure.Plan f) = plan_status f
-failure_status failure.Memory = 7
-
 abbrev pub status_of : Ending → ℕ
 status_of Answered = 0
-status_of (Failed f) = failure_status f
+status_of (Failed failure.Usage) = 1
+status_of (Failed (failure.Refused r)) = refused_status r
+status_of (Failed (failure.Plan f)) = plan_status f
+status_of (Failed failure.Memory) = 7
 status_of WriteFailed = 5
 
 -- ---- lines
-
-abbrev pub text_line : ParseRefusal → List ℕ
-text_line parse.TooLong = codes "qrun: refused: TooLong"
-text_line parse.Syntax = codes "qrun: refused: Syntax"
-text_line parse.NumberTooLarge = codes "qrun: refused: NumberTooLarge"
-text_line parse.TooComplex = codes "qrun: refused: TooComplex"
-text_line parse.Memory = codes "qrun: out of memory"
 
 -- the refusal's name, and the name that it carries
 abbrev pub query_line : Refusal → List ℕ
@@ -98,38 +68,30 @@ field_words (field.Column c) = codes " column " ++ decimal c
 field_words (field.Fields n) = codes " fields " ++ decimal n
 
 abbrev pub refused_line : Refused → List ℕ
-refused_line (refused.Text refusal) = text_line refusal
+refused_line (refused.Text parse.TooLong) = codes "qrun: refused: TooLong"
+refused_line (refused.Text parse.Syntax) = codes "qrun: refused: Syntax"
+refused_line (refused.Text parse.NumberTooLarge) = codes "qrun: refused: NumberTooLarge"
+refused_line (refused.Text parse.TooComplex) = codes "qrun: refused: TooComplex"
+refused_line (refused.Text parse.Memory) = codes "qrun: out of memory"
 refused_line (refused.Query refusal) = query_line refusal
-
--- what stands before and behind the part's name
-abbrev pub part_front : PartFailure → List ℕ
-part_front (part.Bad place) = codes "qrun: bad data: "
-part_front (part.BadList line) = codes "qrun: bad list: "
-part_front part.Read = codes "qrun: read fault: "
-part_front part.Stalled = codes "qrun: stalled: "
-part_front part.TooLong = codes "qrun: limit: bytes of "
-
-abbrev pub part_back : PartFailure → List ℕ
-part_back (part.Bad place) = codes " row " ++ decimal place.row ++ field_words place.field
-part_back (part.BadList line) = []
-part_back part.Read = []
-part_back part.Stalled = []
-part_back part.TooLong = codes ", at most 1073741824"
-
--- how many boxes of a kind are needed, and are there
-abbrev pub stock_words : (needed there : ℕ) → List ℕ
-stock_words needed there =
-    codes " needed " ++ decimal needed ++ (codes ", rack has " ++ decimal there)
 
 abbrev pub plan_line : PlanFailure → List ℕ
 plan_line (plan.Paths name count) =
     codes "qrun: limit: paths of " ++ name ++ codes " are " ++ decimal count
     ++ codes ", at most 32"
 plan_line (plan.Stock s) =
-    codes "qrun: limit: boxes of kind " ++ kind_name s.kind ++ stock_words s.needed s.there
-plan_line (plan.Part name (part.BadList line)) =
+    codes "qrun: limit: boxes of kind " ++ kind_name s.kind ++ codes " needed " ++ decimal s.needed
+    ++ codes ", rack has " ++ decimal s.there
+plan_line (plan.Part name (fault.Bad place)) =
+    codes "qrun: bad data: " ++ part_words name ++ codes " row " ++ decimal place.row
+    ++ field_words place.field
+plan_line (plan.Part name (fault.BadList line)) =
     codes "qrun: bad list: table " ++ name.table ++ codes " line " ++ decimal line
-plan_line (plan.Part name f) = part_front f ++ part_words name ++ part_back f
+plan_line (plan.Part name fault.Read) = codes "qrun: read fault: " ++ part_words name
+plan_line (plan.Part name fault.Stalled) = codes "qrun: stalled: " ++ part_words name
+plan_line (plan.Part name fault.TooLong) =
+    codes "qrun: limit: bytes of " ++ part_words name ++ codes ", at most 1073741824"
+plan_line (plan.Part name fault.Memory) = codes "qrun: out of memory"
 plan_line (plan.Unlawful k) = codes "qrun: limit: unlawful box of kind " ++ kind_name k
 plan_line plan.Memory = codes "qrun: out of memory"
 

@@ -3,25 +3,10 @@
 use Rattle.std.specs.Prelude.{◌<◌, ◌≡◌, ◌≢◌, ◌⊎◌, ℕ, Bool, IfErr, IfOk, List, Result, Vec, [], flat_map, length, Option, Some, None, ⊤}
 use Rattle.std.specs.List.{All}
 use Rattle.std.specs.declared.alloc.Global.{Global}
-use Rattle.outside_io.specs.Growth.{GrewBy, GrewByPrefix, Untouched}
-use Rattle.chunk_data.specs.Values.{Row}
-use Rattle.query_model.specs.Names.{IsAnswer, output_rows, flow, answer_text, Files, UsedPart, database, join_use, parts_used, used_parts, AllPartsValid, IsValidUsed}
-use Rattle.query_model.specs.Database.{AllListsValid}
-use Rattle.query_model.specs.declared.checked.Checked.{Checked}
-use Rattle.query_model.specs.declared.checked.Shape.{Shape}
-use Rattle.query_model.specs.declared.checked.Shape.TheVariants.{Grouped, Plain}
-use Rattle.query_model.specs.declared.query.TableDecl.{TableDecl}
-use Rattle.query_model.specs.declared.processor_spec.Kind.{Kind}
+use Rattle.query_run.specs.Prelude.{AllListsValid, AllPartsValid, Answered, BoxPicture, Checked, Command, Ending, Failed, Files, GrewBy, GrewByPrefix, Grouped, HasEnoughRows, IsAnswer, IsBlank, IsLongFile, IsValidUsed, Kind, PartName, Plain, Row, Shape, TableDecl, Untouched, UsedPart, WriteFailed, answer_text, command_of, database, flow, join_use, output_rows, parts_used, used_parts}
 use Rattle.query_model.specs.declared.processor_spec.Kind.TheVariants as kind
-use Rattle.command_line.specs.Words.{command_of}
-use Rattle.command_line.specs.declared.words.Command.{Command}
-use Rattle.proc_api.specs.Names.{BoxPicture, IsBlank, IsLongFile}
-use Rattle.query_run.specs.declared.ending.PartName.{PartName}
-use Rattle.query_run.specs.declared.ending.PartFailure.TheVariants as part
-use Rattle.query_run.specs.declared.ending.Ending.{Ending}
-use Rattle.query_run.specs.declared.ending.Ending.TheVariants.{Answered, Failed, WriteFailed}
+use Rattle.proc_api.specs.declared.status.WorkFault.TheVariants as fault
 use Rattle.query_run.specs.Endings.{status_of, line_of, TellsLine}
-use Rattle.plan_laws.specs.Plans.{HasEnoughRows}
 use Rattle.query_run.specs.Racks.{boxes_for, IsHonest, IsRunnable, LacksBoxes, NamesFewPaths, OverFiles, PulledMore, RanPlan}
 use Rattle.query_run.specs.Commands.{IsAccepted, IsCheckedCommand, OfCommand, OfQuery}
 use Rattle.query_run.specs.Causes.{FailsAtPart, FailsFor, TakesBoxes, UsesList}
@@ -172,8 +157,8 @@ pub record IsAnswerable (files : Files) (c : Command) : Type 0 where
 -- the reader of a box that served a part failed, or stalled
 abbrev pub ReaderFails : List (List ℕ) → (before after : List BoxPicture) → Type 0
 ReaderFails words before after = OfQuery words (λ c q. (name : PartName)
-    × (FailsAtPart name part.Read c q before after
-    ⊎ FailsAtPart name part.Stalled c q before after))
+    × (FailsAtPart name fault.Read c q before after
+    ⊎ FailsAtPart name fault.Stalled c q before after))
 
 -- over an honest rack such a command is answered, or memory ran out, unless a device failed
 abbrev pub SucceedsUnless : List (List ℕ) → (before : List BoxPicture) → (failed : Type 0)

@@ -1,22 +1,7 @@
 -- Racks of boxes, as a run finds them and as it leaves them.
 use Rattle.std.specs.Prelude.{◌≡◌, ◌⊎◌, ℕ, ◌+◌, ◌<◌, ◌≤◌, cond, true, List, [], ◌∷◌, flat_map, map, count_by, Option, Some, None, IfSome}
 use Rattle.std.specs.List.{All}
-use Rattle.query_model.specs.Names.{Files, used_tables, query_boxes}
-use Rattle.query_model.specs.declared.checked.Checked.{Checked}
-use Rattle.query_model.specs.declared.processor_spec.Spec.{Spec}
-use Rattle.query_model.specs.declared.processor_spec.Kind.{Kind}
-use Rattle.command_line.specs.declared.words.Command.{Command}
-use Rattle.proc_api.specs.Names.{BoxPicture, IsSourceKind, is_of, kind_place, stock_of}
-use Rattle.plan_laws.specs.declared.nodes.DraftNode.{DraftNode}
-use Rattle.plan_laws.specs.Plans.{SelectPlan, plan_nodes}
-use Rattle.plan_laws.specs.Same.{forms}
-use Rattle.plan_laws.specs.Refusals.{first_crowded}
-use Rattle.plan_laws.specs.Shapes.{reserves_from}
-use Rattle.plan_laws.specs.Steps.{select_plan}
-use Rattle.plan_laws.specs.declared.plan.PlanReserve.{PlanReserve}
-use Rattle.plan_laws.specs.Ended.{HasFullCount}
-use Rattle.plan_run.specs.Plans.{kinds_taken, RunsPlan}
-use Rattle.query_run.specs.declared.stock.Shortage.{Shortage}
+use Rattle.query_run.specs.Prelude.{BoxPicture, Checked, Command, DraftNode, Files, HasFullCount, IsSourceKind, Kind, PlanReserve, RunsPlan, SelectPlan, Shortage, Spec, first_crowded, forms, is_of, kind_place, kinds_taken, plan_nodes, query_boxes, reserves_from, select_plan, stock_of, used_tables}
 
 -- ---- honest racks
 

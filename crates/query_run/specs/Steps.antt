@@ -1,35 +1,10 @@
 -- What the steps of an answer give: the plan's graph, the text of what it gives, and why it fails.
-use Rattle.std.specs.Prelude.{◌≡◌, ◌⊎◌, ℕ, ◌+◌, ◌++◌, ◌∷◌, Bool, List, [], flat_map, length, map, replicate, slice_get, slice_index_or, sum_by, Option, Some, None, ⊤}
+use Rattle.std.specs.Prelude.{◌≡◌, ◌⊎◌, ℕ, ◌+◌, ◌++◌, ◌∷◌, Bool, List, [], flat_map, length, map, replicate, slice_get, slice_index_or, sum_by, Option, Some, None}
 use Rattle.std.specs.List.{range_with_len}
-use Rattle.chunk_data.specs.Values.{Table}
-use Rattle.port_word.specs.declared.flags.Reserve.{Reserve}
-use Rattle.query_model.specs.Texts.{answer_text}
-use Rattle.query_model.specs.declared.query.TableDecl.{TableDecl}
-use Rattle.query_model.specs.declared.processor_spec.Kind.{Kind}
-use Rattle.query_model.specs.declared.processor_spec.Spec.{Spec}
-use Rattle.query_model.specs.declared.checked.Checked.{Checked}
-use Rattle.proc_api.specs.Names.{BoxPicture, FileRead, NoFile, PartFile, PartsFile, chunk_rows, file_read, no_spec}
-use Rattle.proc_api.specs.declared.status.WorkFault.TheVariants as fault
-use Rattle.command_line.specs.declared.words.Command.{Command}
-use Rattle.plan_laws.specs.Drafts.{no_draft, with_nodes}
-use Rattle.plan_laws.specs.declared.nodes.DraftNode.{DraftNode}
-use Rattle.plan_laws.specs.Plans.{plan_nodes}
-use Rattle.plan_laws.specs.declared.plan.Plan.{Plan}
-use Rattle.plan_laws.specs.declared.plan.PlanNode.{PlanNode}
-use Rattle.plan_laws.specs.declared.plan.PlanReserve.{PlanReserve}
-use Rattle.plan_laws.specs.Boxes.{reserved_nodes}
-use Rattle.plan_laws.specs.Shapes.{IsSoundPlan, LaysDown, plan_ranks, reserves_from}
+use Rattle.query_run.specs.Prelude.{BoxPicture, Checked, Command, DraftNode, FileRead, GivesRows, GraphBegins, GraphForm, IsSoundPlan, Kind, LaysDown, NoFile, PartFile, PartName, PartPlace, PartsFile, Plan, PlanFailure, PlanFault, PlanGraph, PlanNode, PlanReserve, Reserve, RunsPlan, Spec, Table, TableDecl, answer_text, chunk_rows, file_read, kinds_taken, no_draft, no_spec, plan_nodes, plan_ranks, reserved_nodes, reserves_from, with_nodes}
 use Rattle.query_run.specs.Racks.{kinds_reserved, plan_of}
-use Rattle.plan_run.specs.Plans.{GivesRows, GraphBegins, RunsPlan, kinds_taken}
-use Rattle.plan_run.specs.declared.run.GraphForm.{GraphForm}
-use Rattle.plan_run.specs.declared.run.PlanGraph.{PlanGraph}
-use Rattle.plan_run.specs.declared.run.PlanFault.{PlanFault}
 use Rattle.plan_run.specs.declared.run.PlanFault.TheVariants as end
-use Rattle.query_run.specs.declared.ending.PartName.{PartName}
-use Rattle.query_run.specs.declared.ending.PartFailure.TheVariants as part
-use Rattle.query_run.specs.declared.ending.PlanFailure.{PlanFailure}
 use Rattle.query_run.specs.declared.ending.PlanFailure.TheVariants as plan
-use Rattle.query_run.specs.declared.planning.PartPlace.{PartPlace}
 
 -- ---- the plan
 
@@ -124,26 +99,9 @@ pub record GivesText (header : Bool) (names : List (List ℕ)) (specs : List Spe
 
 -- ---- why it gives nothing
 
--- a fault of a plan, which isn't want of memory
-abbrev pub IsPlanFault : PlanFault → Type 0
-IsPlanFault (end.Fault node fault.Memory) = ⊥
-IsPlanFault (end.Fault node (fault.BadList line)) = ⊤
-IsPlanFault (end.Fault node fault.Read) = ⊤
-IsPlanFault (end.Fault node fault.Stalled) = ⊤
-IsPlanFault (end.Fault node fault.TooLong) = ⊤
-IsPlanFault (end.Fault node (fault.Bad place)) = ⊤
-IsPlanFault (end.Stuck k) = ⊤
-IsPlanFault (end.BadGrowth k) = ⊤
-IsPlanFault end.Memory = ⊤
-
 -- why a plan gave nothing, where these are the names of the parts that its nodes read
 abbrev pub failure_of : PlanFault → (ℕ → PartName) → PlanFailure
-failure_of (end.Fault node (fault.Bad place)) names = plan.Part (names node) (part.Bad place)
-failure_of (end.Fault node fault.Read) names = plan.Part (names node) part.Read
-failure_of (end.Fault node fault.Stalled) names = plan.Part (names node) part.Stalled
-failure_of (end.Fault node fault.TooLong) names = plan.Part (names node) part.TooLong
-failure_of (end.Fault node fault.Memory) names = plan.Memory
-failure_of (end.Fault node (fault.BadList line)) names = plan.Part (names node) (part.BadList line)
+failure_of (end.Fault node f) names = plan.Part (names node) f
 failure_of (end.Stuck k) names = plan.Unlawful k
 failure_of (end.BadGrowth k) names = plan.Unlawful k
 failure_of end.Memory names = plan.Memory

@@ -1,7 +1,5 @@
 ghost use Rattle.std.specs.Prelude.{◌≡◌, map, IfOk, IfErr};
-ghost use Rattle.query_model.specs.declared.query.Query.{Query};
-ghost use Rattle.sql_text.specs.Refusals.{IsReadFrom};
-ghost use Rattle.query_run.specs.Commands.{IsCheckedCommand, IsRefusedFor};
+ghost use Rattle.query_run.specs.Names.{Query, IsReadFrom, IsCheckedCommand, IsRefusedFor};
 
 use crate::ending::Refused;
 use chunk_data::{List, Memory};
@@ -44,19 +42,13 @@ fn schemas_of(alloc: Global, tables: &[TableDecl]) -> Result<List<Schema>, Memor
 {
     let mut schemas = Vec::new(alloc);
     for table in tables {
-        schemas.push(schema_copy(alloc, &table.schema)?)?;
+        let columns = columns_copy(alloc, table.schema.columns.as_slice())?;
+        schemas.push(Schema {
+            name: table.schema.name.copy()?,
+            columns,
+        })?;
     }
     Ok(List::from_vec(schemas))
-}
-
-fn schema_copy(alloc: Global, schema: &Schema) -> Result<Schema, Memory>
-    ensures { IfOk result (λ copy. copy ≡ schema.now) }
-{
-    let columns = columns_copy(alloc, schema.columns.as_slice())?;
-    Ok(Schema {
-        name: schema.name.copy()?,
-        columns,
-    })
 }
 
 fn columns_copy(alloc: Global, columns: &[ColumnDecl]) -> Result<List<ColumnDecl>, Memory>
@@ -64,16 +56,10 @@ fn columns_copy(alloc: Global, columns: &[ColumnDecl]) -> Result<List<ColumnDecl
 {
     let mut copies = Vec::new(alloc);
     for column in columns {
-        copies.push(column_copy(column)?)?;
+        copies.push(ColumnDecl {
+            name: column.name.copy()?,
+            kind: column.kind,
+        })?;
     }
     Ok(List::from_vec(copies))
-}
-
-fn column_copy(column: &ColumnDecl) -> Result<ColumnDecl, Memory>
-    ensures { IfOk result (λ copy. copy ≡ column.now) }
-{
-    Ok(ColumnDecl {
-        name: column.name.copy()?,
-        kind: column.kind,
-    })
 }

@@ -1,12 +1,11 @@
 ghost use Rattle.std.specs.Prelude.{◌≡◌, ◌≤◌};
-ghost use Rattle.outside_io.specs.Counts.{CountIncreased};
-ghost use Rattle.query_run.specs.Endings.{text_status, query_status, refused_status, part_status, plan_status, failure_status, status_of, line_of, TellsLine};
+ghost use Rattle.query_run.specs.Names.{CountIncreased, refused_status, plan_status, status_of, line_of, TellsLine};
 
 use crate::stock::Shortage;
-use crate::telling::{failure_pieces, tell, write_fault_pieces};
+use crate::telling::{failure_pieces, named, tell};
 use chunk_data::Bytes;
 use outside_io::Sink;
-use query_model::places::BadPlace;
+use proc_api::WorkFault;
 use query_model::processor_spec::Kind;
 use query_model::query::Refusal;
 use sql_text::ParseRefusal;
@@ -28,17 +27,6 @@ pub(crate) enum Refused {
     Query(Refusal),
 }
 
-/// What a part failed by, or the device that it was read from.
-#[derive(Clone, Copy)]
-pub(crate) enum PartFailure {
-    Bad(BadPlace),
-    /// The list has this bad line.
-    BadList(u64),
-    Read,
-    Stalled,
-    TooLong,
-}
-
 /// Why the plan of a checked query gave no text.
 #[derive(Drop)]
 pub(crate) enum PlanFailure {
@@ -46,7 +34,8 @@ pub(crate) enum PlanFailure {
     Paths(Bytes, u64),
     /// The rack has too few boxes.
     Stock(Shortage),
-    Part(PartName, PartFailure),
+    /// What a part failed by, or the device that it was read from.
+    Part(PartName, WorkFault),
     /// A box of this kind broke the contract of processors.
     Unlawful(Kind),
     Memory,
@@ -69,42 +58,12 @@ pub(crate) enum Ending {
     WriteFailed,
 }
 
-fn text_status(refusal: ParseRefusal) -> u8
-    ensures { result ≡ text_status refusal }
-{
-    match refusal {
-        ParseRefusal::Memory => 7,
-        _ => 2,
-    }
-}
-
-fn query_status(refusal: &Refusal) -> u8
-    ensures { result ≡ query_status refusal.now }
-{
-    match refusal {
-        Refusal::Memory => 7,
-        _ => 2,
-    }
-}
-
 fn refused_status(refused: &Refused) -> u8
     ensures { result ≡ refused_status refused.now }
 {
     match refused {
-        Refused::Text(refusal) => text_status(*refusal),
-        Refused::Query(refusal) => query_status(refusal),
-    }
-}
-
-fn part_status(failure: PartFailure) -> u8
-    ensures { result ≡ part_status failure }
-{
-    match failure {
-        PartFailure::Bad(_) => 3,
-        PartFailure::BadList(_) => 3,
-        PartFailure::Read => 4,
-        PartFailure::Stalled => 4,
-        PartFailure::TooLong => 6,
+        Refused::Text(ParseRefusal::Memory) | Refused::Query(Refusal::Memory) => 7,
+        Refused::Text(_) | Refused::Query(_) => 2,
     }
 }
 
@@ -112,24 +71,11 @@ fn plan_status(failure: &PlanFailure) -> u8
     ensures { result ≡ plan_status failure.now }
 {
     match failure {
-        PlanFailure::Paths(_, _) => 6,
-        PlanFailure::Stock(_) => 6,
-        PlanFailure::Part(_, failure) => part_status(*failure),
-        PlanFailure::Unlawful(_) => 6,
-        PlanFailure::Memory => 7,
-    }
-}
-
-impl Failure {
-    fn status(&self) -> u8
-        ensures { result ≡ failure_status self.now }
-    {
-        match self {
-            Failure::Usage => 1,
-            Failure::Refused(refused) => refused_status(refused),
-            Failure::Plan(failure) => plan_status(failure),
-            Failure::Memory => 7,
-        }
+        PlanFailure::Part(_, WorkFault::Bad(_) | WorkFault::BadList(_)) => 3,
+        PlanFailure::Part(_, WorkFault::Read | WorkFault::Stalled) => 4,
+        PlanFailure::Paths(_, _) | PlanFailure::Stock(_) | PlanFailure::Unlawful(_) => 6,
+        PlanFailure::Part(_, WorkFault::TooLong) => 6,
+        PlanFailure::Part(_, WorkFault::Memory) | PlanFailure::Memory => 7,
     }
 }
 
@@ -139,7 +85,10 @@ impl Ending {
     {
         match self {
             Ending::Answered => 0,
-            Ending::Failed(failure) => failure.status(),
+            Ending::Failed(Failure::Usage) => 1,
+            Ending::Failed(Failure::Refused(refused)) => refused_status(refused),
+            Ending::Failed(Failure::Plan(failure)) => plan_status(failure),
+            Ending::Failed(Failure::Memory) => 7,
             Ending::WriteFailed => 5,
         }
     }
@@ -155,7 +104,7 @@ impl Ending {
         match self {
             Ending::Answered => {}
             Ending::Failed(failure) => tell(err, &failure_pieces(failure)),
-            Ending::WriteFailed => tell(err, &write_fault_pieces()),
+            Ending::WriteFailed => tell(err, &named(b"qrun: write fault", b"")),
         }
     }
 }

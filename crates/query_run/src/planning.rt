@@ -1,8 +1,6 @@
 // The graph of a plan, and the parts that its boxes serve.
 ghost use Rattle.std.specs.Prelude.{◌≡◌, ◌+◌, ◌++◌, ◌≤◌, length, map, replicate, IfOk, OnOk, slice_get};
-ghost use Rattle.plan_laws.specs.Boxes.{reserved_nodes};
-ghost use Rattle.query_run.specs.Racks.{kinds_reserved};
-ghost use Rattle.query_run.specs.Steps.{IsGraphOf, edges_kept, kept_places, name_of, name_at, node_specs, part_place, places_in, reserves_behind, spec_read};
+ghost use Rattle.query_run.specs.Names.{reserved_nodes, kinds_reserved, IsGraphOf, edges_kept, kept_places, name_of, name_at, node_specs, part_place, places_in, reserves_behind, spec_read};
 
 use crate::ending::PartName;
 use chunk_data::{Bytes, List, Memory};
@@ -33,11 +31,8 @@ pub(crate) fn part_places(alloc: Global, plan: &Plan) -> Result<Vec<PartPlace>, 
         places.push(part_place(&node.spec))?;
     }
     for reserve in plan.reserves.as_slice() {
-        add_kept(
-            &mut places,
-            table_read(nodes, reserve.node),
-            reserve.kinds.len(),
-        )?;
+        let table = table_read(nodes, reserve.node);
+        add_kept(&mut places, table, reserve.kinds.len())?;
     }
     Ok(places)
 }
@@ -140,18 +135,9 @@ fn kinds_kept(alloc: Global, reserves: &[PlanReserve]) -> Result<List<Kind>, Mem
 {
     let mut kinds = Vec::new(alloc);
     for reserve in reserves {
-        add_kinds(&mut kinds, reserve.kinds.as_slice())?;
+        kinds.extend_from_slice(reserve.kinds.as_slice())?;
     }
     Ok(List::from_vec(kinds))
-}
-
-fn add_kinds(kinds: &mut Vec<Kind>, more: &[Kind]) -> Result<(), Memory>
-    ensures { OnOk result (kinds.new.items ≡ kinds.old.items ++ more.now) }
-{
-    for kind in more {
-        kinds.push(*kind)?;
-    }
-    Ok(())
 }
 
 /// The reserves, whose nodes and edges are numbered behind so many.
@@ -192,19 +178,18 @@ fn ranks_of(alloc: Global, nodes: &[PlanNode], unborn: usize) -> Result<List<u32
     for node in nodes {
         ranks.push(node.rank)?;
     }
-    for _kept in 0..unborn {
-        ranks.push(0)?;
-    }
+    ranks.extend_from_slice(vec![in alloc; 0; unborn]?.as_slice())?;
     Ok(List::from_vec(ranks))
 }
 
 fn specs_of(alloc: Global, nodes: List<PlanNode>) -> Result<Vec<Spec>, Memory>
     ensures { IfOk result (λ specs. specs.items ≡ node_specs nodes) }
 {
-    let mut specs = Vec::new(alloc);
-    for node in nodes.into_vec() {
-        let PlanNode { spec, .. } = node;
-        specs.push(spec)?;
-    }
-    Ok(specs)
+    Ok(
+        nodes
+            .into_vec()
+            .into_iter()
+            .map(|PlanNode { spec, .. }| spec)
+            .collect(alloc)?,
+    )
 }

@@ -1,6 +1,5 @@
 ghost use Rattle.std.specs.Prelude.{map, IfSome, IfNone};
-ghost use Rattle.plan_laws.specs.Shapes.{boxes_needed};
-ghost use Rattle.query_run.specs.Racks.{HasBoxes, IsShort};
+ghost use Rattle.query_run.specs.Names.{boxes_needed, HasBoxes, IsShort};
 
 use proc_api::{KINDS, Rack};
 use query_model::processor_spec::Kind;

@@ -1,15 +1,12 @@
-ghost use Rattle.std.specs.Prelude.{◌≡◌, ◌≤◌, ◌++◌, ◌∷◌, [], codes, decimal, flat_map};
-ghost use Rattle.outside_io.specs.Counts.{CountIncreased};
+ghost use Rattle.std.specs.Prelude.{◌≡◌, ◌≤◌, ◌++◌, ◌∷◌, [], flat_map};
+ghost use Rattle.query_run.specs.Names.{CountIncreased, kind_name, query_line, refused_line, place_words, field_words, plan_line, failure_line, piece_bytes, TellsLine, Writes};
 ghost use Rattle.query_run.specs.declared.ending.PlanFailure.TheVariants as plan;
-ghost use Rattle.query_run.specs.declared.ending.PartFailure.TheVariants as part;
-ghost use Rattle.proc_api.specs.KindRows.{kind_name};
-ghost use Rattle.query_run.specs.Endings.{text_line, query_line, refused_line, part_words, place_words, field_words, plan_line, failure_line, piece_bytes, TellsLine, Writes};
 
-use crate::ending::{Failure, PartFailure, PartName, PlanFailure, Refused};
+use crate::ending::{Failure, PartName, PlanFailure, Refused};
 use itoa::Buffer;
 use outside_io::{Sink, WriteFault, write_all};
-use proc_api::kind_row;
-use query_model::places::{BadField, BadPlace};
+use proc_api::{WorkFault, kind_row};
+use query_model::places::BadField;
 use query_model::processor_spec::Kind;
 use query_model::query::Refusal;
 use sql_text::ParseRefusal;
@@ -23,13 +20,14 @@ pub(crate) enum LinePiece<'a> {
 }
 
 /// The pieces of a line, in order; the last ones are empty where it has fewer.
-type Line<'a> = [LinePiece<'a>; 10];
+type Line<'a> = [LinePiece<'a>; 9];
+
+/// A word of a line, and what stands behind it.
+type Word = (&'static [u8], LinePiece<'static>);
 
 const OUT_OF_MEMORY: &[u8] = b"qrun: out of memory";
 
-const END: LinePiece<'static> = LinePiece::Text(b"\n");
-
-const NONE: LinePiece<'static> = LinePiece::Text(b"");
+const NO_WORD: Word = (b"", LinePiece::Text(b""));
 
 /// Writes the pieces one after another, until the sink fails.
 pub(crate) fn tell<E: Sink>(err: &mut E, pieces: &[LinePiece<'_>])
@@ -86,27 +84,28 @@ pub(crate) fn failure_pieces(failure: &Failure) -> Line<'_>
     }
 }
 
-/// The line of a write fault and its end.
-pub(crate) fn write_fault_pieces() -> Line<'static>
-    ensures { flat_map piece_bytes result ≡ codes "qrun: write fault" ++ 10 ∷ [] }
+/// The line of a front and a name, and its end.
+pub(crate) fn named<'a>(front: &'static [u8], name: &'a [u8]) -> Line<'a>
+    ensures { flat_map piece_bytes result ≡ front.now ++ name.now ++ 10 ∷ [] }
 {
-    named(b"qrun: write fault", b"")
+    line(front, name, NO_WORD, NO_WORD, NO_WORD)
 }
 
-fn named<'a>(front: &'static [u8], name: &'a [u8]) -> Line<'a>
-    ensures { flat_map piece_bytes result ≡ front.now ++ name.now ++ 10 ∷ [] }
+fn line<'a>(front: &'static [u8], name: &'a [u8], a: Word, b: Word, c: Word) -> Line<'a>
+    ensures { flat_map piece_bytes result ≡ front.now ++ name.now
+        ++ (a.entry.0.now ++ piece_bytes a.entry.1) ++ (b.entry.0.now ++ piece_bytes b.entry.1)
+        ++ (c.entry.0.now ++ piece_bytes c.entry.1) ++ 10 ∷ [] }
 {
     [
         LinePiece::Text(front),
         LinePiece::Text(name),
-        END,
-        NONE,
-        NONE,
-        NONE,
-        NONE,
-        NONE,
-        NONE,
-        NONE,
+        LinePiece::Text(a.0),
+        a.1,
+        LinePiece::Text(b.0),
+        b.1,
+        LinePiece::Text(c.0),
+        c.1,
+        LinePiece::Text(b"\n"),
     ]
 }
 
@@ -114,7 +113,13 @@ fn refused_pieces(refused: &Refused) -> Line<'_>
     ensures { flat_map piece_bytes result ≡ refused_line refused.now ++ 10 ∷ [] }
 {
     match refused {
-        Refused::Text(refusal) => named(text_line(*refusal), b""),
+        Refused::Text(ParseRefusal::TooLong) => named(b"qrun: refused: TooLong", b""),
+        Refused::Text(ParseRefusal::Syntax) => named(b"qrun: refused: Syntax", b""),
+        Refused::Text(ParseRefusal::NumberTooLarge) => {
+            named(b"qrun: refused: NumberTooLarge", b"")
+        }
+        Refused::Text(ParseRefusal::TooComplex) => named(b"qrun: refused: TooComplex", b""),
+        Refused::Text(ParseRefusal::Memory) => named(OUT_OF_MEMORY, b""),
         Refused::Query(refusal) => {
             let (front, name) = query_line(refusal);
             named(front, name)
@@ -126,139 +131,76 @@ fn plan_pieces(failure: &PlanFailure) -> Line<'_>
     ensures { flat_map piece_bytes result ≡ plan_line failure.now ++ 10 ∷ [] }
 {
     match failure {
-        PlanFailure::Paths(name, count) => [
-            LinePiece::Text(b"qrun: limit: paths of "),
-            LinePiece::Text(name.as_slice()),
-            LinePiece::Text(b" are "),
-            LinePiece::Number(*count),
-            LinePiece::Text(b", at most 32"),
-            END,
-            NONE,
-            NONE,
-            NONE,
-            NONE,
-        ],
-        PlanFailure::Stock(short) => [
-            LinePiece::Text(b"qrun: limit: boxes of kind "),
-            LinePiece::Text(name_of(&short.kind)),
-            LinePiece::Text(b" needed "),
-            LinePiece::Number(short.needed as u64),
-            LinePiece::Text(b", rack has "),
-            LinePiece::Number(short.there as u64),
-            END,
-            NONE,
-            NONE,
-            NONE,
-        ],
-        PlanFailure::Part(name, failure) => part_pieces(name, *failure),
-        PlanFailure::Unlawful(kind) => {
-            named(b"qrun: limit: unlawful box of kind ", name_of(kind))
-        }
+        PlanFailure::Paths(name, count) => line(
+            b"qrun: limit: paths of ",
+            name.as_slice(),
+            (b" are ", LinePiece::Number(*count)),
+            (b"", LinePiece::Text(b", at most 32")),
+            NO_WORD,
+        ),
+        PlanFailure::Stock(short) => line(
+            b"qrun: limit: boxes of kind ",
+            name_of(&short.kind),
+            (b" needed ", LinePiece::Number(short.needed as u64)),
+            (b", rack has ", LinePiece::Number(short.there as u64)),
+            NO_WORD,
+        ),
+        PlanFailure::Part(name, fault) => part_pieces(name, *fault),
+        PlanFailure::Unlawful(kind) => named(b"qrun: limit: unlawful box of kind ", name_of(kind)),
         PlanFailure::Memory => named(OUT_OF_MEMORY, b""),
     }
 }
 
-fn part_pieces(name: &PartName, failure: PartFailure) -> Line<'_>
-    ensures { flat_map piece_bytes result
-        ≡ plan_line (plan.Part name.now failure) ++ 10 ∷ [] }
+fn part_pieces(name: &PartName, fault: WorkFault) -> Line<'_>
+    ensures { flat_map piece_bytes result ≡ plan_line (plan.Part name.now fault) ++ 10 ∷ [] }
 {
-    match failure {
-        PartFailure::Bad(place) => place_pieces(name, place),
-        PartFailure::BadList(line) => line_pieces(name, line),
-        PartFailure::Read => named_part(b"qrun: read fault: ", name, b""),
-        PartFailure::Stalled => named_part(b"qrun: stalled: ", name, b""),
-        PartFailure::TooLong => {
-            named_part(b"qrun: limit: bytes of ", name, b", at most 1073741824")
-        }
+    let table = name.table.as_slice();
+    let part = place_words(name.part);
+    match fault {
+        WorkFault::Bad(place) => line(
+            b"qrun: bad data: table ",
+            table,
+            part,
+            (b" row ", LinePiece::Number(place.row)),
+            field_words(place.field),
+        ),
+        WorkFault::BadList(number) => line(
+            b"qrun: bad list: table ",
+            table,
+            (b" line ", LinePiece::Number(number)),
+            NO_WORD,
+            NO_WORD,
+        ),
+        WorkFault::Read => line(b"qrun: read fault: table ", table, part, NO_WORD, NO_WORD),
+        WorkFault::Stalled => line(b"qrun: stalled: table ", table, part, NO_WORD, NO_WORD),
+        WorkFault::TooLong => line(
+            b"qrun: limit: bytes of table ",
+            table,
+            part,
+            (b"", LinePiece::Text(b", at most 1073741824")),
+            NO_WORD,
+        ),
+        WorkFault::Memory => named(OUT_OF_MEMORY, b""),
     }
 }
 
-fn named_part<'a>(front: &'static [u8], name: &'a PartName, back: &'static [u8]) -> Line<'a>
-    ensures { flat_map piece_bytes result
-        ≡ front.now ++ part_words name.now ++ back.now ++ 10 ∷ [] }
-{
-    let (word, number) = place_words(name.part);
-    [
-        LinePiece::Text(front),
-        LinePiece::Text(b"table "),
-        LinePiece::Text(name.table.as_slice()),
-        LinePiece::Text(word),
-        number,
-        LinePiece::Text(back),
-        END,
-        NONE,
-        NONE,
-        NONE,
-    ]
-}
-
 /// A part of a table, or its list.
-fn place_words(part: u32) -> (&'static [u8], LinePiece<'static>)
+fn place_words(part: u32) -> Word
     ensures { result.0.now ++ piece_bytes result.1 ≡ place_words part }
 {
     if part == 0 {
-        (b" list", NONE)
+        (b" list", LinePiece::Text(b""))
     } else {
         (b" part ", LinePiece::Number(part as u64))
     }
 }
 
-fn line_pieces(name: &PartName, line: u64) -> Line<'_>
-    ensures { flat_map piece_bytes result
-        ≡ plan_line (plan.Part name.now (part.BadList line)) ++ 10 ∷ [] }
-{
-    [
-        LinePiece::Text(b"qrun: bad list: "),
-        LinePiece::Text(b"table "),
-        LinePiece::Text(name.table.as_slice()),
-        LinePiece::Text(b" line "),
-        LinePiece::Number(line),
-        END,
-        NONE,
-        NONE,
-        NONE,
-        NONE,
-    ]
-}
-
-fn place_pieces(name: &PartName, place: BadPlace) -> Line<'_>
-    ensures { flat_map piece_bytes result
-        ≡ plan_line (plan.Part name.now (part.Bad place)) ++ 10 ∷ [] }
-{
-    let (part, of_part) = place_words(name.part);
-    let (word, number) = field_words(place.field);
-    [
-        LinePiece::Text(b"qrun: bad data: "),
-        LinePiece::Text(b"table "),
-        LinePiece::Text(name.table.as_slice()),
-        LinePiece::Text(part),
-        of_part,
-        LinePiece::Text(b" row "),
-        LinePiece::Number(place.row),
-        LinePiece::Text(word),
-        LinePiece::Number(number),
-        END,
-    ]
-}
-
-fn field_words(field: BadField) -> (&'static [u8], u64)
-    ensures { result.0.now ++ decimal result.1 ≡ field_words field }
+fn field_words(field: BadField) -> Word
+    ensures { result.0.now ++ piece_bytes result.1 ≡ field_words field }
 {
     match field {
-        BadField::Column(column) => (b" column ", u64::from(column)),
-        BadField::Fields(fields) => (b" fields ", fields),
-    }
-}
-
-fn text_line(refusal: ParseRefusal) -> &'static [u8]
-    ensures { result.now ≡ text_line refusal }
-{
-    match refusal {
-        ParseRefusal::TooLong => b"qrun: refused: TooLong",
-        ParseRefusal::Syntax => b"qrun: refused: Syntax",
-        ParseRefusal::NumberTooLarge => b"qrun: refused: NumberTooLarge",
-        ParseRefusal::TooComplex => b"qrun: refused: TooComplex",
-        ParseRefusal::Memory => OUT_OF_MEMORY,
+        BadField::Column(column) => (b" column ", LinePiece::Number(u64::from(column))),
+        BadField::Fields(fields) => (b" fields ", LinePiece::Number(fields)),
     }
 }
 

@@ -1,8 +1,6 @@
 ghost use Rattle.std.specs.Prelude.{map, string_bytes};
 ghost use Rattle.std.specs.List.{All};
-ghost use Rattle.outside_io.specs.Counts.{CountIncreased};
-ghost use Rattle.proc_api.specs.Clauses.{IsBlank};
-ghost use Rattle.query_run.specs.Headline.{EndsFor, IsRun};
+ghost use Rattle.query_run.specs.Names.{CountIncreased, IsBlank, EndsFor, IsRun};
 
 use crate::answer::make_text;
 use crate::ending::Ending;

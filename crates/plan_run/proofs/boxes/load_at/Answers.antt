@@ -1,12 +1,5 @@
-use Rattle.plan_run.proofs.Imports.{Changes-map_set, Loads, arith, no_box, ◌≡◌}
-use Rattle.plan_run.proofs.Loading.{box-read}
+use Rattle.plan_run.proofs.Imports.{Changes-map_set, Loads, no_box, ◌≡◌}
 use Rattle.plan_run.proofs.boxes.load_at.Goals as goal
-
-pub unreachable-requires : goal.unreachable-requires
-unreachable-requires g c = grind (arith, box-read)
-
-pub unreachable-requires-in-Err-WrongKind : goal.unreachable-requires-in-Err-WrongKind
-unreachable-requires-in-Err-WrongKind g c = grind (arith, box-read)
 
 pub returns-in-Ok-clause-ok : goal.returns-in-Ok-clause-ok
 returns-in-Ok-clause-ok g c = Changes-map_set _ no_box c.args.i (λ p q. Loads p c.args.spec q)

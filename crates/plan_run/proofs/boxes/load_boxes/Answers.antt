@@ -8,10 +8,7 @@ load_at-requires-clause-blank g c κs lives = next-blank c.loop-i.i c.args.specs
     (in-map _ c.args.boxes.now.items c.loop-i.i (omega arith))
 
 pub load_at-requires-clause-of_kind : goal.load_at-requires-clause-of_kind
-load_at-requires-clause-of_kind g c κs lives =
-    next-kind c.loop-i.i c.args.specs.items _ _ c.remove.result c.loop-i.invariant.loads
-    c.requires.kinds (omega arith) (next-spec c.args.specs.items c.loop-i.specs.items
-    c.loop-i.i c.remove.result c.loop-i.invariant.rest c.remove.ensures.value (omega arith))
+load_at-requires-clause-of_kind g c κs lives = search (arith, next-kind, next-spec)
 
 pub returns-in_err-load_at-clause-still : goal.returns-in_err-load_at-clause-still
 returns-in_err-load_at-clause-still g c =

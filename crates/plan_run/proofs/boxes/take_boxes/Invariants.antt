@@ -17,21 +17,3 @@ invariant-loop-i g l =
       room : vec_capacity l.initial.boxes ≤ vec_capacity l.boxes;
       rack_room : vec_capacity l.initial.rack.boxes ≤ vec_capacity l.rack.boxes;
     }
-
-abbrev pub invariant-loop-k : goal.invariant-loop-k
-invariant-loop-k g l =
-    record {
-      taken : map (λ b. (goal.Processor-dyn g (b.vtable, b.value)).seen b.value) l.boxes.items
-          ≡ taken_for (take (length l.specs.items + l.k) (kinds_taken l.specs.items l.kept))
-          (map (λ b. (goal.Processor-dyn g (b.vtable, b.value)).seen b.value)
-          l.fn.rack.boxes.items);
-      left : map (λ b. (goal.Processor-dyn g (b.vtable, b.value)).seen b.value) l.rack.boxes.items
-          ≡ left_after (take (length l.specs.items + l.k) (kinds_taken l.specs.items l.kept))
-          (map (λ b. (goal.Processor-dyn g (b.vtable, b.value)).seen b.value)
-          l.fn.rack.boxes.items);
-      count : length l.boxes.items ≡ length l.specs.items + l.k;
-      rest : length l.rack.boxes.items + length l.specs.items + l.k
-          ≡ length l.fn.rack.boxes.items;
-      room : vec_capacity l.fn.boxes ≤ vec_capacity l.boxes;
-      rack_room : vec_capacity l.fn.rack.boxes ≤ vec_capacity l.rack.boxes;
-    }

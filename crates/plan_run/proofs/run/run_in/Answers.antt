@@ -19,12 +19,10 @@ returns g c =
     let back = plan-gives-back (kinds_taken specs kept) _ _ _ _ _ c.requires.runnable.stock
     c.take_boxes.ensures.taken c.take_boxes.ensures.left c.give_back.ensures
     c.run_taken-boxes.ensures.later in
-    let gives = gives-by _ _ (λ ended. plan-runs specs kept _ _ _ _ _ ended
-    c.take_boxes.ensures.taken c.take_boxes.ensures.left c.give_back.ensures) _ _
-    (begins-by _ _ _ refl) _ _ refl _ c.run_taken-boxes.ensures.gives in
     record {
       rack = inl back;
       blank = back-blank _ _ _ c.requires.runnable.blank back;
-      gives = gives.rows;
-      fault = gives.fault;
+      gives = gives-by _ _ (λ ended. plan-runs specs kept _ _ _ _ _ ended
+          c.take_boxes.ensures.taken c.take_boxes.ensures.left c.give_back.ensures) _ _
+          (begins-by _ _ _ refl) _ _ refl _ c.run_taken-boxes.ensures.gives;
     }

@@ -1,15 +1,10 @@
-use Rattle.plan_run.proofs.Imports.{arith, refl, sym, ◌∙◌}
+use Rattle.plan_run.proofs.Imports.{arith, refl}
 use Rattle.plan_run.proofs.Loading.{map-len}
 use Rattle.plan_run.proofs.Telling.{begun-with, gives-by, run-later, starting-born, still-left}
 use Rattle.plan_run.proofs.run.run_loaded.Goals as goal
 
 pub result_of-result-requires-clause-born : goal.result_of-result-requires-clause-born
-result_of-result-requires-clause-born g c κs =
-    let count = map-len (λ b. (goal.Processor-dyn g (b.vtable, b.value)).seen b.value)
-    c.args.boxes.items in
-    starting-born c.args.form c.args.nodes _ _ c.requires.form.graph
-    (c.requires.form.one_each ∙ sym count) (omega (arith, count)) c.requires.starting
-    c.run_graph-boxes.ensures.back
+result_of-result-requires-clause-born g c κs = search (arith, map-len, starting-born)
 
 pub returns-clause-later : goal.returns-clause-later
 returns-clause-later g c = run-later _ _ _ c.run_graph-boxes.ensures.back
