@@ -1,10 +1,8 @@
 -- The wires of births join the nodes that grew and the places of their new nodes alone.
-use Rattle.node_births.proofs.Imports.{AllByRecursion, AreAll, Birth, Bool, GrowthForm, Input, IsGraph, Left, List, Me, New, NewEdge, Output, Who, Wire, [], and_parts, arith, births_of, born_wires, both_ways, cases_Bool, count_by-append, edge-of, end_node, eq-eqb, false, false_from_ne_true, filter, flat_map, flaw-over-own, flaw_over, form_kind, get_or, grown_ranks, grown_wires, has_input, has_output, has_wrong_end, holds_node, inl, input_count, inr, is_named, is_place, length, list_any, list_any_at, ltb-true, map, ne_eqb, new_wire, new_wires, no_wire, not-false, or_parts, output_count, own-take-same, own-take-same-of-none, own_wires, places_for, rank_at, refl, set_ranks, set_ranks-length, set_ranks-other, suc, sym, true, wire_at, ℕ, ◌++◌, ◌<◌, ◌==◌, ◌∙◌, ◌∷◌, ◌≡◌, ◌≢◌}
+use Rattle.node_births.proofs.Imports.{AllByRecursion, AreAll, ArePeers, Birth, Bool, GraphBefore, GrowthForm, Input, IsGraph, IsGraphBefore, Left, List, Me, New, NewEdge, Output, Who, Wire, [], and_parts, arith, births_of, born_wires, both_ways, cases_Bool, count_by-append, edge-of, end_node, eq-eqb, false, false_from_ne_true, filter, flat_map, flaw-over-own, flaw_over, form_kind, get_or, grown_ranks, grown_wires, has_input, has_output, has_wrong_end, holds_node, input_count, is_named, is_place, length, list_any, list_any_at, ltb-true, map, ne_eqb, new_wire, new_wires, no_wire, not-false, or_parts, output_count, own-take-same, own-take-same-of-none, own_wires, places_for, rank_at, refl, set_ranks, set_ranks-length, set_ranks-other, suc, sym, true, wire_at, ℕ, ◌++◌, ◌<◌, ◌==◌, ◌∙◌, ◌∷◌, ◌≡◌, ◌≢◌}
 use Rattle.node_births.proofs.BlankPlaces.{count-no, is-counted}
 use Rattle.node_births.proofs.ReserveLaws.{grower-unheld, none-at, r_at}
 use Rattle.node_births.proofs.SoundBirths.{IsOfReserve, place-cons}
-use Rattle.node_births.specs.LeftNodes.{GraphBefore, IsGraphBefore}
-use Rattle.node_births.specs.OwnBirths.{ArePeers}
 
 -- ---- places and ranks
 
@@ -49,11 +47,9 @@ none-ends wires m h e lt = grind (arith, is-counted, list_any_at, no_wire, eq-eq
 none-taken : (wires : List Wire) (m : ℕ) → HasNone wires m → (k : ℕ)
     → (has_input wires m k ≡ false) × (has_output wires m k ≡ false)
 none-taken wires m h k = (
-  false_from_ne_true _ (λ on.
-      let e = edge-of (λ w. w.to) (λ w. w.input) wires m k on in
+  false_from_ne_true _ (λ on. let e = edge-of (λ w. w.to) (λ w. w.input) wires m k on in
       (none-ends wires m h e.0 e.1).1 e.2),
-  false_from_ne_true _ (λ on.
-      let e = edge-of (λ w. w.from) (λ w. w.out) wires m k on in
+  false_from_ne_true _ (λ on. let e = edge-of (λ w. w.from) (λ w. w.out) wires m k on in
       (none-ends wires m h e.0 e.1).0 e.2),
 )
 
@@ -68,11 +64,9 @@ module _ (n : ℕ) (places : List ℕ) (m : ℕ) (ne : n ≢ m)
       → HasNone (new_wires n places edges) m
   new-none [] h = (refl, refl)
   new-none (e ∷ edges) h =
-      let parts = or_parts _ _ h in
-      let named = and_parts _ _ (not-false _ (or_parts _ _ parts.0).0) in
-      let rest = new-none edges parts.1 in (
-        count-no (λ (w : Wire). w.to == m) (new_wire n places e) (new_wires n places edges)
-            (end-other e.to.who named.1) ∙ rest.0,
+      let named = and_parts _ _ (not-false _ (or_parts _ _ (or_parts _ _ h).0).0) in
+      let rest = new-none edges (or_parts _ _ h).1 in (
+        grind (arith, count-no, end-other, e.to.who, named.1, rest.0),
         count-no (λ (w : Wire). w.from == m) (new_wire n places e) (new_wires n places edges)
             (end-other e.from.who named.0) ∙ rest.1,
       )
@@ -108,20 +102,11 @@ module _ {g : GraphBefore} (before : IsGraphBefore g) where
       (input_count (flat_map born_wires births) m ≡ input_count some m)
       × (output_count (flat_map born_wires births) m ≡ output_count some m)
   counts-of m test [] h = (refl, refl)
-  counts-of m test (b ∷ births) h =
-      let rest = counts-of m test births h.1 in
+  counts-of m test (b ∷ births) h = let rest = counts-of m test births h.1 in
       let ins = count_by-append (λ (w : Wire). w.to == m) (born_wires b) in
       let outs = count_by-append (λ (w : Wire). w.from == m) (born_wires b) in
       let all = flat_map born_wires births in
-      let some = flat_map born_wires (filter test births) in
-      elim (cases_Bool (test b)) [
-        | inl on ↦ rw on
-            (ins all ∙ rw rest.0 refl ∙ sym (ins some), outs all ∙ rw rest.1 refl ∙ sym (outs some))
-        | inr off ↦ let none = h.0 off in rw off (
-          ins all ∙ rw (none.0, rest.0) (omega arith),
-          outs all ∙ rw (none.1, rest.1) (omega arith),
-        )
-      ]
+      grind (arith, cases_Bool (test b), rest.0, rest.1, h.0)
 
   -- a birth of another node has no wire at a node that it did not take
   pub birth-none : (m : ℕ) (b : Birth) → IsOfReserve before b → b.expander ≢ m
@@ -155,9 +140,8 @@ module _ {g : GraphBefore} (before : IsGraphBefore g) where
   pub none-grown : (m : ℕ) → HasNone g.wires m → (births : List Birth)
       → AllByRecursion (IsOfReserve before) births → births_of m births ≡ []
       → is_place births m ≡ false → HasNone (grown_wires g.wires births) m
-  none-grown m none births all own off =
-      let same = counts-own m births all off in
-      none-both g.wires (flat_map born_wires births) m none (rw own at same)
+  none-grown m none births all own off = none-both g.wires (flat_map born_wires births) m none (rw
+      own at (counts-own m births all off))
 
   -- a blank that they didn't take has none
   pub blank-none : (m k : ℕ) → k < length g.reserves → holds_node m (r_at before k) ≡ true
@@ -203,10 +187,10 @@ module _ (ranks : List ℕ) (wires : List Wire) (graph : IsGraph ranks wires [])
       (k : ℕ) → k < length places → IsUnwired some wires n (get_or places k 0))
       → flaw_over rank past (own_wires n sources targets) left n growth
       ≡ flaw_over rank past wires left n growth
-  flaw-by-peers rank past left growth unwired = flaw-over-own rank past left n growth (own_wires n
-      sources targets) wires (own-take-same n sources targets ranks wires [] graph (peers.inputs ∙
-      sym ins) (peers.outputs ∙ sym outs) others.0 others.1) (λ k lt. let u = unwired k lt in let m
-      = get_or (places_for (map form_kind growth.specs) left.blanks past) k 0 in let none = none-of
-      m u.some_none in
-      own-take-same-of-none n sources targets wires m u.other none.0 none.1
-      (none-taken wires m u.all_none))
+  flaw-by-peers rank past left growth unwired = flaw-over-own _ _ _ _ _ _ _ (own-take-same n sources
+      targets ranks wires [] graph (peers.inputs ∙ sym ins) (peers.outputs ∙ sym outs) others.0
+      others.1) (λ k lt. let u = unwired k lt in
+      let m = get_or (places_for (map form_kind growth.specs) left.blanks past) k 0 in
+      let none = none-of m u.some_none in
+      own-take-same-of-none n sources targets wires m u.other none.0 none.1 (none-taken wires m
+      u.all_none))

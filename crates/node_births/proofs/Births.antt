@@ -1,9 +1,6 @@
 -- A node that waits for its birth may begin once it was loaded and born.
-use Rattle.node_births.proofs.Imports.{AwaitsBirth, BoxHolds, BoxPicture, FollowsKept, Identity, IsNewborn, IsSeatOf, Gains, Lists, Loads, MakesStep, NodeCell, NodePorts, NodeSeat, None, Picture, PortsHold, SameLists, SeatState, Spec, [], after_grow, ap, arith, cell_ports, in_count, length-replicate, new_input, no_flags, out_count, replicate, replicate-append-replicate, follows-new, is_over_stage, is_unborn_stage, length, new_picture, nothing, number-made, ports_picture, refl, stage-made, state-made, still-holds, still-lists, still-quiet, subst, sym, view, ℕ, ◌++◌, ◌-◌, ◌∙◌, ◌≡◌, ◌≤◌}
+use Rattle.node_births.proofs.Imports.{AwaitsBirth, BoxHolds, BoxPicture, Due, FollowsKept, Gains, Identity, IsNewborn, IsSeatOf, Lists, Loads, MakesStep, NodeCell, NodePorts, NodeSeat, None, Over, Picture, PortsHold, SameLists, SeatState, Spec, [], after_grow, ap, arith, cell_ports, follows-new, fresh-box, in_count, is_over_stage, is_unborn_stage, length, length-replicate, new_input, new_picture, no_flags, nothing, number-made, out_count, ports_picture, refl, replicate, replicate-append-replicate, stage-made, state-made, still-holds, still-lists, still-quiet, subst, sym, view, wires-still, ℕ, ◌++◌, ◌-◌, ◌∙◌, ◌≡◌, ◌≤◌}
 use Rattle.core_laws.specs.declared.types.Step.TheVariants as step
-use Rattle.node_cells.proofs.NewCells.{fresh-box}
-use Rattle.node_cells.proofs.StayLaws.{wires-still}
-use Rattle.exec_laws.specs.declared.edges.NodeStatus.TheVariants as node
 
 module _ {P : Type 0} (seen : P → BoxPicture) (t : Identity) (old : NodeCell P)
     (h : AwaitsBirth seen t old) (q : P) (s : Spec) (loads : Loads (seen old.processor) s (seen q))
@@ -33,12 +30,11 @@ module _ {P : Type 0} (seen : P → BoxPicture) (t : Identity) (old : NodeCell P
 
   tokens : (view b).state.tokens ≡ 0
   tokens = let x = ap (λ (z : SeatState). z.tokens) (state-made h.seat i) in
-      let y = ap (λ (z : SeatState). z.tokens) (state-made i.seat m) in let z = h.tokens in
-      omega (arith, x, y, z)
+      grind (arith, state-made i.seat m, i.seat, h.tokens)
 
   pub newborn : IsNewborn seen t s old (record {
     processor = q;
-    mark = record { state = node.Due; last = None };
+    mark = record { state = Due; last = None };
     ports = old.ports;
     seat = b;
     reserve = old.reserve;
@@ -67,7 +63,7 @@ module _ {P : Type 0} (seen : P → BoxPicture) (t : Identity) (old : NodeCell P
           ∙ (ap (λ (z : SeatState). z.held) (state-made h.seat i) ∙ h.free);
       born = ap is_unborn_stage (stage-made i.seat m);
       going = ap is_over_stage (stage-made i.seat m);
-      mark = λ over. let z : node.Due ≡ node.Over = over in cc;
+      mark = λ over. let z : Due ≡ Over = over in cc;
     };
     ports = refl;
     same = record {
@@ -106,10 +102,8 @@ awaits-more seen t old ports seat h at g = record {
   seat = at;
   blank = h.blank;
   ports = g.may.holds;
-  new_view = g.view ∙ (ap (λ v. after_grow v (length ports.inputs.items)
-      (length ports.outputs.items)) h.new_view
-      ∙ more-picture (length old.ports.inputs.items) (length old.ports.outputs.items)
-      (length ports.inputs.items) (length ports.outputs.items) g.inputs g.outputs);
+  new_view = g.view ∙ (ap (λ v. after_grow v (length ports.inputs.items) (length
+      ports.outputs.items)) h.new_view ∙ more-picture _ _ _ _ g.inputs g.outputs);
   pulled = λ i. g.lists.pulled i ∙ h.pulled i;
   pushed = λ o. g.lists.pushed o ∙ h.pushed o;
   unborn = ap is_unborn_stage g.stage ∙ h.unborn;

@@ -1,15 +1,11 @@
 -- All births are births, each of whose new nodes took its place.
-use Rattle.node_births.proofs.Imports.{AllByRecursion, AreAllBorn, AreBirths, AreOnce, AreOnce-tail, Birth, BoxPicture, GrowthFlaw, GrowthForm, HasForm, IsBirth, IsBlank, IsTrue, List, None, Option, Reserve, SameBox, Some, StopCause, [], all_places, ap, append-nil, arith, births_of, both_ways, cases_eq, cases_lt, eq-eqb, false, flat_map, form_at, get_elem?, get_or, get_or-eq_default, get_or-set_other, get_or-set_same, get_or_append_left, growths_of, holds_node, inl, inr, is_place, kept_growths, length, length-append, list_any, map, ne_eqb, no_box, not-blank, or_parts, refl, some, subst, suc, sym, true, zero, ℕ, ◌++◌, ◌<◌, ◌==◌, ◌∙◌, ◌∷◌, ◌≡◌, ◌≢◌, ◌≤◌}
+use Rattle.node_births.proofs.Imports.{AllByRecursion, AreAllBorn, AreBirths, AreNodesLeft, AreOnce, AreOnce-tail, Birth, BoxPicture, Fault, Flaw, GraphBefore, GrowthFlaw, GrowthForm, GrowthsLeft, HasForm, IsBirth, IsBlank, IsTrue, List, Memory, NodeLeft, None, Option, Reserve, SameBox, Some, StopCause, [], all_places, ap, append-nil, arith, births_of, both_ways, box_at, cases_eq, cases_lt, eq-eqb, false, flat_map, form_at, get_elem?, get_or, get_or-eq_default, get_or-set_other, get_or-set_same, get_or_append_left, growths_of, holds_node, inl, inr, is_place, kept_growths, length, length-append, list_any, map, ne_eqb, no_box, not-blank, or_parts, refl, reserve_at, some, subst, suc, sym, true, ungrown_at, zero, ℕ, ◌++◌, ◌<◌, ◌==◌, ◌∙◌, ◌∷◌, ◌≡◌, ◌≢◌, ◌≤◌}
 use Rattle.node_births.proofs.BirthWires.{avoids, is-at}
 use Rattle.node_births.proofs.GraphsLeft.{all-both, once-left, takes-left}
 use Rattle.node_births.proofs.NodesLeft.{Standing, all, as-before, born-still, births-known, each-of, grower-out, is-place-at, own-once, own-split, place-is, place-once, standing, was-born}
 use Rattle.node_births.proofs.OwnSound.{all-sound, births_at, none-passes, grower-below, grows-by, others-none, own_births}
 use Rattle.node_births.proofs.ReserveLaws.{unheld-born, held-below, held-blank, node-once, r_at, reserve-of}
 use Rattle.node_births.proofs.SoundBirths.{place-cons}
-use Rattle.node_births.specs.LeftNodes.{ungrown_at, AreNodesLeft, GraphBefore, NodeLeft}
-use Rattle.node_births.specs.OwnBirths.{GrowthsLeft}
-use Rattle.node_cells.specs.declared.stop_cause.StopCause.TheVariants as cause
-unfoldable use Rattle.node_births.proofs.Imports.{box_at, reserve_at}
 
 -- ---- lists by their elements
 
@@ -72,8 +68,7 @@ module _ (m : ℕ) (P : Birth → ℕ → Type 0) where
 
   takes-none : (births : List Birth) → is_place births m ≡ false → AllByRecursion Takes births
   takes-none [] off = tt
-  takes-none (b ∷ births) off =
-      let parts = or_parts _ _ (sym (place-cons b births m) ∙ off) in
+  takes-none (b ∷ births) off = let parts = or_parts _ _ (sym (place-cons b births m) ∙ off) in
       ((λ j lj e. absurd (avoids b.places m parts.0 j lj e)), takes-none births parts.1)
 
   -- where it holds of one
@@ -81,25 +76,16 @@ module _ (m : ℕ) (P : Birth → ℕ → Type 0) where
       → get_elem? births i ≡ some c → (l : ℕ) → l < length c.places → get_or c.places l 0 ≡ m
       → P c l → AllByRecursion Takes births
   takes-one [] once i c at l ll is p = absurd (cc)
-  takes-one (b ∷ births) once zero c at l ll is p =
-      let same : b ≡ c = cc in (
-        (λ j lj e.
-            let len = length-append b.places (all_places births) in
-            let lb : l < length b.places = rw same ll in
-            let place : j ≡ l = once j l (omega (arith, lj, len)) (omega (arith, lb, len))
-            (get_or_append_left b.places (all_places births) 0 j lj ∙ e ∙ sym is
-            ∙ ap (λ (x : Birth). get_or x.places l 0) (sym same)
-            ∙ sym (get_or_append_left b.places (all_places births) 0 l lb)) in
-            rw (same, place) p),
-        takes-none births (place-once (b ∷ []) births m once (rw append-nil (subst (λ x. list_any (λ
-            (k : ℕ). k == m) x ≡ true) (ap (λ (x : Birth). x.places) (sym same)) (subst (λ x.
-            list_any (λ (k : ℕ). k == x) c.places ≡ true) is (is-at c.places l ll))))),
-      )
+  takes-one (b ∷ births) once zero c at l ll is p = let same : b ≡ c = cc in (
+    (λ j lj e. let len = length-append b.places (all_places births) in
+        grind (arith, get_or_append_left, b.places)),
+    takes-none births (place-once (b ∷ []) births m once (rw append-nil (subst (λ x. list_any (λ
+        (k : ℕ). k == m) x ≡ true) (ap (λ (x : Birth). x.places) (sym same)) (rw is at (is-at
+        c.places l ll))))),
+  )
   takes-one (b ∷ births) once (suc i) c at l ll is p = (
-    (λ j lj e. absurd (both_ways _ (place-once (b ∷ []) births m once (rw append-nil
-        (subst (λ x. list_any (λ (k : ℕ). k == x) b.places ≡ true) e (is-at b.places j lj))))
-        (is-place-at births i c m at (subst (λ x. list_any (λ (k : ℕ). k == x) c.places ≡ true) is
-        (is-at c.places l ll))))),
+    (λ j lj e. absurd (both_ways _ (place-once (b ∷ []) births m once (rw append-nil (rw e at (is-at
+        b.places j lj)))) (is-place-at births i c m at (rw is at (is-at c.places l ll))))),
     takes-one births (once-rest b.places (all_places births) once) i c at l ll is p,
   )
     where
@@ -121,10 +107,9 @@ module _ {g : GraphBefore} {nodes : ℕ → NodeLeft} {after : List BoxPicture}
   forms m k lt here on =
       let P : Birth → ℕ → Type 0 = (λ b j. HasForm (nodes m).box.spec (form_at b.growth.specs j)) in
       let w = was-born h m k lt here on in
-      takes-one m P (own_births h k) (own-once h m k lt here) w.number
-      w.birth (rw (own-split h m k lt here)
-      (elem-first (nodes m).births _ w.number w.birth w.among)) w.place w.in_range w.at_place
-      (rw (w.stays.same.spec, w.loads.spec) w.form)
+      takes-one m P (own_births h k) (own-once h m k lt here) w.number w.birth (rw (own-split h m k
+      lt here) (elem-first (nodes m).births _ w.number w.birth w.among)) w.place w.in_range
+      w.at_place (rw (w.stays.same.spec, w.loads.spec) w.form)
 
   own-each : (k : ℕ) → k < length g.reserves
       → AllByRecursion (IsBirth g.reserves g.boxes after) (own_births h k)
@@ -135,30 +120,26 @@ module _ {g : GraphBefore} {nodes : ℕ → NodeLeft} {after : List BoxPicture}
 
       birth : (i : ℕ) (b : Birth) → get_elem? (own_births h k) i ≡ some b
           → IsBirth g.reserves g.boxes after b
-      birth i b at =
-          let of = all-at _ _ i b (each-of h k lt) at in
-          let exp : b.expander ≡ n = all-at _ _ i b (subst (AllByRecursion (λ (x : Birth).
-          x.expander ≡ n)) (grows-by h k lt).own (all-tested n (own_births h k))) at in
-          let same : of.number ≡ k =
-          node-once h.before of.number k of.in_range lt (sym of.expander ∙ exp) in
+      birth i b at = let of = all-at _ _ i b (each-of h k lt) at in
+          let exp : b.expander ≡ n = all-at _ _ i b (rw ((grows-by h k lt).own) at (all-tested n
+          (own_births h k))) at in
+          let same : of.number ≡ k = node-once h.before of.number k of.in_range lt (sym of.expander
+          ∙ exp) in
           let held : (j : ℕ) → j < length b.places → holds_node (get_or b.places j 0) (r_at h.before
-          k) ≡ true = (λ j lj. subst (λ x. holds_node (get_or b.places j 0) (r_at h.before x) ≡
-          true) same (of.held _ (is-at b.places j lj))) in
-          let x = (h.each n (grower-below h k lt)).leaves in
-          let after_n = h.boxes n (grower-below h k lt) in
-          record {
+          k) ≡ true = (λ j lj. rw same at (of.held _ (is-at b.places j lj))) in
+          let after_n = h.boxes n (grower-below h k lt) in record {
             as_many = of.as_many;
             ends = of.ends;
             reserved = λ j lj. rw (exp, reserve-of h.before k lt) (held j lj);
             unborn = λ j lj. held-blank h.before _ k lt (held j lj);
             born = λ j lj. let m : ℕ = get_or b.places j 0 in
-                rw (h.boxes m (held-below h.before m k lt (held j lj)))
-                (all-at _ _ i b (forms m k lt (held j lj)
-                (is-place-at (own_births h k) i b m at (is-at b.places j lj))) at j lj
-                refl);
+                rw (h.boxes m (held-below h.before m k lt (held j lj))) (all-at _ _ i b (forms m k
+                lt (held j lj) (is-place-at (own_births h k) i b m at (is-at b.places j lj))) at j
+                lj refl);
             grown = rw (exp, after_n) (born-still h n
                 (grower-below h k lt) (grower-out h n k lt refl));
-            may_grow = rw (exp, after_n) (x.may_grow i b at exp);
+            may_grow = rw (exp, after_n) (((h.each n (grower-below h k lt)).leaves).may_grow i b at
+                exp);
           }
 
   each-birth : AllByRecursion (IsBirth g.reserves g.boxes after) (all h)
@@ -172,31 +153,29 @@ module _ {g : GraphBefore} {nodes : ℕ → NodeLeft} {after : List BoxPicture}
 
   past-none : (n : ℕ) → length g.boxes ≤ n → growths_of n (all h) ≡ []
   past-none n le = elim (standing h n) [
-    | Standing.growing k lt is ↦
-        absurd (let below = grower-below h k lt in omega (arith, le, below, is))
-    | Standing.held k lt here ↦
-        absurd (let below = held-below h.before n k lt here in omega (arith, le, below))
+    | Standing.growing k lt is ↦ absurd (omega (arith, le, grower-below h k lt, is))
+    | Standing.held k lt here ↦ absurd (omega (arith, le, held-below h.before n k lt here))
     | Standing.alone out ↦ ap (map (λ (b : Birth). b.growth)) (none-passes (births_at h) (λ (b :
         Birth). b.expander == n) g.reserves (λ j lj. others-none h j lj n (out j lj).0))
   ]
 
   -- a box keeps the growths of its node's births, unless a flaw stopped the run before them
   kept-by : (o : Option StopCause) (own : List GrowthForm) (p q : BoxPicture)
-      → o ≢ Some cause.Memory → ((f : GrowthFlaw) → o ≡ Some (cause.Flaw f) → own ≢ [])
+      → o ≢ Some Memory → ((f : GrowthFlaw) → o ≡ Some (Flaw f) → own ≢ [])
       → GrowthsLeft o own p q → IsTrue q.lawful → kept_growths q ≡ kept_growths p ++ own
   kept-by None own p q whole grown k lawful = k lawful
-  kept-by (Some (cause.Fault f)) own p q whole grown k lawful = k lawful
-  kept-by (Some (cause.Flaw f)) own p q whole grown k lawful = grind (arith, none-behind)
-  kept-by (Some cause.Memory) own p q whole grown k lawful = absurd (whole refl)
+  kept-by (Some (Fault f)) own p q whole grown k lawful = k lawful
+  kept-by (Some (Flaw f)) own p q whole grown k lawful = grind (arith, none-behind)
+  kept-by (Some Memory) own p q whole grown k lawful = absurd (whole refl)
 
   keeps-own : (n : ℕ) → ((f : GrowthFlaw) → n < length g.boxes → (nodes n).stopped ≡ Some
-      (cause.Flaw f) → growths_of n (all h) ≢ []) → IsTrue (box_at after n).lawful → kept_growths
+      (Flaw f) → growths_of n (all h) ≢ []) → IsTrue (box_at after n).lawful → kept_growths
       (box_at after n) ≡ kept_growths (box_at g.boxes n) ++ growths_of n (all h)
   keeps-own n grown = grind (arith, cases_lt, n, all, births-known, kept-by, past, past-none)
 
   -- each growth that a lawful box keeps is a birth, where no flaw stopped the run
   pub all-born : ((n : ℕ) (f : GrowthFlaw) → n < length g.boxes → (nodes n).stopped ≢ Some
-      (cause.Flaw f)) → AreAllBorn g.boxes after (all h)
+      (Flaw f)) → AreAllBorn g.boxes after (all h)
   all-born none n lawful = keeps-own n (λ f lt e. absurd (none n f lt e)) lawful
 
   -- a blank box that wasn't taken is blank
@@ -228,7 +207,7 @@ module _ {g : GraphBefore} {nodes : ℕ → NodeLeft} {after : List BoxPicture}
   -- ---- before a growth that had a flaw
 
   module _ (n : ℕ) (f : GrowthFlaw) (lt : n < length g.boxes)
-      (flawed : (nodes n).stopped ≡ Some (cause.Flaw f)) where
+      (flawed : (nodes n).stopped ≡ Some (Flaw f)) where
     abbrev boxes : List BoxPicture
     boxes = ungrown_at after n
 

@@ -3,7 +3,7 @@ use Rattle.node_births.proofs.BirthsLeft.{all-born, births-left, ungrown-left}
 use Rattle.node_births.proofs.FlawsLeft.{flaw-left}
 use Rattle.node_births.proofs.NodesLeft.{graph-is}
 use Rattle.node_births.proofs.PlacesLeft.{ends-born, places-left}
-use Rattle.node_births.specs.LeftNodes.{GraphLeftLaw}
+use Rattle.node_births.proofs.Imports.{GraphLeftLaw}
 
 pub graph-left : GraphLeftLaw
 graph-left g nodes after h = record {

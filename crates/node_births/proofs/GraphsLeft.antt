@@ -1,10 +1,8 @@
 -- The graph that births without a flaw make.
-use Rattle.node_births.proofs.Imports.{AllByRecursion, AreOnce, AreOnce-append, Birth, Bool, IsGraph, List, None, Reserve, TakeBlanks, Wire, [], all_places, ap, append-nil, append_assoc, arith, births_of, blanks_of, born_wires, both_ways, cases_Bool, false, filter, flat_map, flaw_over, form_kind, get_or, graph-grown, grown_ranks, grown_wires, holds_node, is_place, is_some, length, length-append, length-map, map, new_wire, new_wires, places_for, rank_at, ranks-append, refl, reserve_of, subst, sym, true, wires-append, ℕ, ◌++◌, ◌+◌, ◌<◌, ◌||◌, ◌∙◌, ◌∷◌, ◌≡◌, ◌≢◌, ◌≤◌}
+use Rattle.node_births.proofs.Imports.{AllByRecursion, AreOnce, AreOnce-append, Birth, Bool, GraphBefore, IsGraph, IsGraphBefore, List, None, Reserve, TakeBlanks, Wire, [], all_places, ap, append-nil, append_assoc, arith, births_of, blanks_of, born_wires, both_ways, cases_Bool, false, filter, flat_map, flaw_over, form_kind, get_or, graph-grown, grown_ranks, grown_wires, holds_node, is_place, length, length-append, length-map, map, new_wires, places_for, rank_at, ranks-append, refl, reserve_of, subst, sym, true, wires-append, ℕ, ◌++◌, ◌+◌, ◌<◌, ◌||◌, ◌∙◌, ◌∷◌, ◌≡◌, ◌≢◌, ◌≤◌}
 use Rattle.node_births.proofs.BirthWires.{HasNone, blank-none, flaw-by-peers, grown-own, no-place, none-ends, ranks-kept, ranks-length, is-at}
 use Rattle.node_births.proofs.ReserveLaws.{grower-unheld, held-below, r_at, reserve-of}
 use Rattle.node_births.proofs.SoundBirths.{AreSoundAfter, IsOfReserve, IsSoundAfter, NoFlaw, all-places, places-held, holds-within, left, left-blanks, new-place, no-flaw, of-reserve, places-once, place-own, same-blanks, places-free}
-use Rattle.node_births.specs.LeftNodes.{GraphBefore, IsGraphBefore}
-unfoldable use Rattle.node_births.proofs.Imports.{box_at}
 
 pub all-both : {A : Type 0} (P : A → Type 0) (xs ys : List A) → AllByRecursion P xs
     → AllByRecursion P ys → AllByRecursion P (xs ++ ys)
@@ -52,8 +50,7 @@ module _ {g : GraphBefore} (before : IsGraphBefore g) where
         (place-held k lt) e all (place-new k lt)
 
     own-none : (k : ℕ) → k < length b.places → HasNone own_wires (get_or b.places k 0)
-    own-none k lt = blank-none before (get_or b.places k 0) h.number h.in_range (place-held k lt)
-        (births_of r.node e) (all-filter IsOf _ e all)
+    own-none k lt = blank-none before _ _ h.in_range (place-held k lt) _ (all-filter IsOf _ e all)
         (places-free before h _ (is-at b.places k lt))
 
     lt : r.node < length g.boxes
@@ -63,12 +60,11 @@ module _ {g : GraphBefore} (before : IsGraphBefore g) where
         (few : length wires + length b.growth.edges ≤ 1024) where
       same-flaw : flaw_over (rank_at (grown_ranks g.ranks e) r.node) (length g.boxes) wires
           (left before h) r.node b.growth ≡ None
-      same-flaw =
-          let counts = grown-own before g.wires r.node e all grower-old in
-          rw (ranks-kept g.ranks e r.node grower-old)
-          (sym (flaw-by-peers (grown_ranks g.ranks e) wires graph own_wires r.node h.sound.sources
-          h.sound.targets h.sound.peers counts.0 counts.1 (rank_at g.ranks r.node) (length g.boxes)
-          (left before h) b.growth (rw (sym h.sound.places) (λ k lk. record {
+      same-flaw = let counts = grown-own before g.wires r.node e all grower-old in
+          rw (ranks-kept g.ranks e r.node grower-old) (sym (flaw-by-peers (grown_ranks g.ranks e)
+          wires graph own_wires r.node h.sound.sources h.sound.targets h.sound.peers counts.0
+          counts.1 (rank_at g.ranks r.node) (length g.boxes) (left before h) b.growth (rw (sym
+          h.sound.places) (λ k lk. record {
             other = λ is. place-other k lk (sym is);
             some_none = own-none k lk;
             all_none = place-none k lk;
@@ -76,8 +72,7 @@ module _ {g : GraphBefore} (before : IsGraphBefore g) where
 
       flawless : NoFlaw (rank_at (grown_ranks g.ranks e) r.node) wires (left before h) r.node
           b.growth b.places
-      flawless = rw h.sound.places (no-flaw _ (length g.boxes) wires (left before h) r.node
-          b.growth same-flaw)
+      flawless = rw h.sound.places (no-flaw _ _ _ _ _ _ same-flaw)
 
       as_many : length b.places ≡ length b.growth.specs
       as_many = (of-reserve before h).as_many
@@ -92,8 +87,7 @@ module _ {g : GraphBefore} (before : IsGraphBefore g) where
           place-other (λ e lt. (
             λ k lk is. (none-ends wires _ (place-none k lk) e lt).0 (sym is),
             λ k lk is. (none-ends wires _ (place-none k lk) e lt).1 (sym is),
-          ))
-          record {
+          )) record {
             ends = rw as_many flawless.ends;
             ranked = flawless.ranked;
             small = flawless.small;
@@ -113,16 +107,13 @@ module _ {g : GraphBefore} (before : IsGraphBefore g) where
   graph-left e [] all h graph few = rw append-nil graph
   graph-left e (b ∷ births) all h graph few =
       let same : (e ++ b ∷ []) ++ births ≡ e ++ b ∷ births = append_assoc e (b ∷ []) births in
-      let of = of-reserve before h.0 in
       let room : length (grown_wires g.wires e) + length b.growth.edges ≤ 1024 =
       (let total = ap length (wires-append g.wires e (b ∷ births)) in
-      let all_more = length-append (grown_wires g.wires e)
-      (born_wires b ++ flat_map born_wires births) in
-      let split = length-append (born_wires b) (flat_map born_wires births) in
-      let edges = length-map b.growth.edges (new_wire b.expander b.places) in
-      omega (arith, few, total, all_more, split, edges)) in
-      rw (sym same) (graph-left (e ++ b ∷ []) births (all-both IsOf e (b ∷ []) all (of, tt)) h.1
-      (graph-step e all b h.0 graph room) (rw same few))
+      let all_more = length-append (grown_wires g.wires e) (born_wires b ++ flat_map born_wires
+      births) in let split = length-append (born_wires b) (flat_map born_wires births) in
+      grind (arith, length-map, b.expander, b.places)) in
+      rw (sym same) (graph-left (e ++ b ∷ []) births (all-both IsOf e (b ∷ []) all
+      ((of-reserve before h.0), tt)) h.1 (graph-step e all b h.0 graph room) (rw same few))
 
   -- no two new nodes are one
   pub once-left : (e births : List Birth) → AllByRecursion IsOf e → AreSoundAfter before e births
@@ -152,11 +143,9 @@ module _ {g : GraphBefore} (before : IsGraphBefore g) where
 
       blanks : (left before h.0).blanks ≡ blanks_of g.boxes e
           (reserve_of g.reserves b.expander).first_node (reserve_of g.reserves b.expander).nodes
-      blanks = rw (h.0.sound.expander, reserve-of before h.0.number h.0.in_range)
-          (left-blanks g.boxes (births_of q.node e) q.first_node q.nodes
-          ∙ same-blanks g.boxes g.boxes (births_of q.node e) e q.first_node q.nodes (λ i li.
-          let m : ℕ = q.first_node + i in (
-            ap (λ t. t || is_some (box_at g.boxes m).spec) (place-own before h.0.number h.0.in_range
-                m (holds-within q.first_node q.nodes m (omega arith) (omega (arith, li))) e all),
+      blanks = rw (h.0.sound.expander, reserve-of before h.0.number h.0.in_range) (left-blanks
+          g.boxes (births_of q.node e) q.first_node q.nodes ∙ same-blanks g.boxes g.boxes (births_of
+          q.node e) e q.first_node q.nodes (λ i li. let m : ℕ = q.first_node + i in (
+            grind (arith, place-own, holds-within),
             refl,
           )))

@@ -38,21 +38,18 @@ pub wire-learned : {t : Identity} (old new : NodeSeat) (e : ℕ) (w : Wire) → 
     → Learns e w old new
 wire-learned old new e w o un m to =
     let mine : names (view old).number (Some w) ≡ true = or_left _ _ (eq-eqb _ _ to) in
-    learned old new e w un
-    (state-made o m ∙ ((λ j. cond (mine j) (cond (knows e (view old).state.seen)
-    (view old).state (learning e (view old).state)) (view old).state)
-    ∙ ap (λ b. cond b (view old).state (learning e (view old).state)) un))
-    (ends-made o m e refl (λ _. refl) ∙ (λ j. cond (mine j && eq-eqb e e refl j)
-    (end_wired (Some w) (end_of_view (view old) e)) (end_of_view (view old) e)))
-    (λ f ne. same-made o m f (ne_eqb f e ne)) (number-made o m) (stage-made o m)
+    learned old new e w un (state-made o m ∙ ((λ j. cond (mine j) (cond (knows e (view
+    old).state.seen) (view old).state (learning e (view old).state)) (view old).state) ∙ ap (λ b.
+    cond b (view old).state (learning e (view old).state)) un)) (ends-made o m e refl (λ _. refl) ∙
+    (λ j. cond (mine j && eq-eqb e e refl j) (end_wired (Some w) (end_of_view (view old) e))
+    (end_of_view (view old) e))) (λ f ne. same-made o m f (ne_eqb f e ne)) (number-made o m)
+    (stage-made o m)
 
 -- the edge got this wire
 pub wire-set : {t : Identity} (old new : NodeSeat) (e : ℕ) (w : Wire) → IsSeatOf t old
     → knows e (view old).state.seen ≡ false
     → MakesStep t old new (step.Wire e w) None (wired None) → Learns e w old new
-wire-set old new e w o un m =
-    learned old new e w un
-    (state-made o m ∙ ap (λ b. cond b (view old).state (learning e (view old).state)) un)
-    (ends-made o m e refl (λ _. refl) ∙ ap (λ b. cond b
-    (end_wired (Some w) (end_of_view (view old) e)) (end_of_view (view old) e)) (eq-eqb e e refl))
+wire-set old new e w o un m = learned old new e w un (state-made o m ∙ ap (λ b. cond b (view
+    old).state (learning e (view old).state)) un) (ends-made o m e refl (λ _. refl) ∙ ap (λ b. cond
+    b (end_wired (Some w) (end_of_view (view old) e)) (end_of_view (view old) e)) (eq-eqb e e refl))
     (λ f ne. same-made o m f (ne_eqb f e ne)) (number-made o m) (stage-made o m)

@@ -1,4 +1,4 @@
-mod Imports
+pub mod Imports
 pub mod MorePorts
 pub mod Learning
 pub mod GainLaws

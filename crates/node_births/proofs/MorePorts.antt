@@ -1,5 +1,5 @@
 -- The ports with one more keep their law: of the new port nothing is seen, and nothing went by.
-use Rattle.node_births.proofs.Imports.{AddsPort, Bool, Differs, EdgeEnd, GainsPort, HasPortOf, Input, InputPort, IsEnd, IsNextPort, IsPort, IsSound, Learns, List, MayGain, NodePorts, NodeSeat, None, Option, Output, Picture, Port, PortKnown, PortsHold, PortsPicture, SameEdge, Some, Table, Wire, [], after_grow, ap, arith, both_ways, cases_eq, cases_lt, differs-quiet, edge_of, edges_at, end_of_view, eq-eqb, eqb-true, false, false_from_ne_true, flags_at, get_or, get_or-append_right, get_or_append_left, get_or_past, has, holds_data, in_count, inl, inr, input_at, input_seen, is_own_port, is_set, is_some, is_updated_port, knows, length, length-append, lifted_of, new_input, no_end, no_input, or_cases, or_left, or_right, out_count, output_at, output_seen, over_flags, own-or-past, passed, past-chunks, past-sight, peer, place, port_edge, ports_picture, pushes_to, quiet-passed, quiet-seen, quiet-sight, refl, seen_at, shown, shown-at, sight, slot_in, sound-grow, subst, suc, sym, taken-itself, taken_out, true, view, wide-counts, wide-input, wide-old, wide-output, with_input, with_output, zero, ℕ, ◌++◌, ◌+◌, ◌<◌, ◌==◌, ◌||◌, ◌∙◌, ◌∷◌, ◌≡◌, ◌≢◌, ◌≤◌, ◌⊎◌}
+use Rattle.node_births.proofs.Imports.{AddsPort, Bool, Differs, EdgeEnd, GainsPort, HasPortOf, Input, InputPort, IsEnd, IsNextPort, IsPort, IsSound, Learns, List, MayGain, NodePorts, NodeSeat, None, Option, Output, Picture, Port, PortKnown, PortsHold, PortsPicture, SameEdge, Some, Table, Wire, [], after_grow, ap, arith, both_ways, cases_eq, cases_lt, differs-quiet, edge_of, edges_at, end_of_view, eq-eqb, eqb-true, false, false_from_ne_true, flags_at, get_or, get_or-append_right, get_or_append_left, get_or_past, has, holds_data, in_count, inl, input_at, input_seen, inr, is_own_port, is_set, is_some, is_updated_port, knows, length, length-append, lifted_of, new_input, no_end, no_input, or_cases, or_left, or_right, out_count, output_at, output_seen, over_flags, own-or-past, passed, past-chunks, past-sight, peer, place, port_edge, ports_picture, pushes_to, quiet-passed, quiet-seen, quiet-sight, refl, seen_at, shown, shown-at, sight, slot_in, sound-grow, subst, suc, sym, taken-itself, taken_out, true, view, wide-counts, wide-input, wide-old, wide-output, with_input, with_output, zero, ℕ, ◌++◌, ◌+◌, ◌<◌, ◌==◌, ◌||◌, ◌∙◌, ◌∷◌, ◌≡◌, ◌≢◌, ◌≤◌, ◌⊎◌}
 
 -- ---- a list with one more
 
@@ -52,10 +52,9 @@ none-unknown c e h none = false_from_ne_true _ (λ k. let p = h.cover e k in
 past-passed : (c : PortsPicture) → PortsHold c → c.view.actions ≡ [] → (q : Port)
     → length (edges_at c q) ≤ place q → passed c q ≡ []
 unfolding pushes_to
-past-passed c h quiet (Input i) le =
-    let same = ap (λ (x : InputPort). x.chunk) (quiet-sight c h quiet (Input i)) in
-    (λ j. past-chunks c (Input i) le j ++ taken_out (input_at (shown c) i).chunk (same j))
-    ∙ taken-itself (input_at (shown c) i).chunk
+past-passed c h quiet (Input i) le = (λ j. past-chunks c (Input i) le j ++ taken_out (input_at
+    (shown c) i).chunk ((ap (λ (x : InputPort). x.chunk) (quiet-sight c h quiet (Input i))) j)) ∙
+    taken-itself (input_at (shown c) i).chunk
 past-passed c h quiet (Output o) le = (λ j. past-chunks c (Output o) le j ++ pushes_to o (quiet j))
 
 -- ---- numbers at ports
@@ -81,17 +80,11 @@ split-own : (p q : Port) (ins outs : List ℕ) (x : ℕ) → place p ≡ length 
     → IsPort (length (with_input p ins x)) (length (with_output p outs x)) q
     → IsPort (length ins) (length outs) q ⊎ (q ≡ p)
 split-own (Input k) (Input i) ins outs x e lt =
-    let len = inputs-length (Input k) ins x in elim (cases_lt i (length ins)) [
-      | inl less ↦ inl less
-      | inr le ↦ inr (ap Input (omega (arith, lt, le, len, e)))
-    ]
+    grind (arith, inputs-length (Input k) ins x, cases_lt i (length ins))
 split-own (Input k) (Output o) ins outs x e lt = inl lt
 split-own (Output k) (Input i) ins outs x e lt = inl lt
 split-own (Output k) (Output o) ins outs x e lt =
-    let len = outputs-length (Output k) outs x in elim (cases_lt o (length outs)) [
-      | inl less ↦ inl less
-      | inr le ↦ inr (ap Output (omega (arith, lt, le, len, e)))
-    ]
+    let len = outputs-length (Output k) outs x in grind (arith, cases_lt o (length outs))
 
 more-own : (p q : Port) (ins outs : List ℕ) (x : ℕ) → IsPort (length ins) (length outs) q
     → IsPort (length (with_input p ins x)) (length (with_output p outs x)) q
@@ -100,10 +93,8 @@ more-own p (Output o) ins outs x lt = let len = outputs-length p outs x in omega
 
 new-own : (p : Port) (ins outs : List ℕ) (x : ℕ) → place p ≡ length (side p ins outs)
     → IsPort (length (with_input p ins x)) (length (with_output p outs x)) p
-new-own (Input i) ins outs x e =
-    let len = inputs-length (Input i) ins x in omega (arith, e, len)
-new-own (Output o) ins outs x e =
-    let len = outputs-length (Output o) outs x in omega (arith, e, len)
+new-own (Input i) ins outs x e = omega (arith, e, inputs-length (Input i) ins x)
+new-own (Output o) ins outs x e = omega (arith, e, outputs-length (Output o) outs x)
 
 -- an input that wasn't there isn't needed, and each other one is as before
 old-need : (p : Port) (xs : List Bool) (i : ℕ) → i < length xs
@@ -200,25 +191,20 @@ module _ (p : Port) (e : ℕ) (w : Wire) (po pn : NodePorts) (old new : NodeSeat
   quiet = ap (λ (v : Picture). v.actions) m.view ∙ before.quiet
 
   own-split : (q : Port) → is_own_port d q → is_own_port c q ⊎ (q ≡ p)
-  own-split q own = split-own p q c.inputs c.outputs e next
-      (subst (λ (z : List ℕ × List ℕ). IsPort (length z.0) (length z.1) q)
-      (λ j. (m.inputs j, m.outputs j)) own)
+  own-split q own = grind (arith, split-own, c.inputs, c.outputs)
 
   own-still : (q : Port) → is_own_port c q → is_own_port d q
-  own-still q own = subst (λ (z : List ℕ × List ℕ). IsPort (length z.0) (length z.1) q)
-      (λ j. (sym m.inputs j, sym m.outputs j)) (more-own p q c.inputs c.outputs e own)
+  own-still q own = rw (m.inputs, m.outputs) (more-own p q c.inputs c.outputs e own)
 
   own-new : is_own_port d p
-  own-new = subst (λ (z : List ℕ × List ℕ). IsPort (length z.0) (length z.1) p)
-      (λ j. (sym m.inputs j, sym m.outputs j)) (new-own p c.inputs c.outputs e next)
+  own-new = rw (m.inputs, m.outputs) (new-own p c.inputs c.outputs e next)
 
   edge-still : (q : Port) → is_own_port c q → edge_of d q ≡ edge_of c q
   edge-still q own = (λ j. port_edge (m.inputs j) (m.outputs j) q)
       ∙ old-number p q c.inputs c.outputs e own
 
   edge-new : edge_of d p ≡ e
-  edge-new = (λ j. port_edge (m.inputs j) (m.outputs j) p)
-      ∙ new-number p c.inputs c.outputs e next
+  edge-new = (λ j. port_edge (m.inputs j) (m.outputs j) p) ∙ new-number p c.inputs c.outputs e next
 
   other-edge : (q : Port) → is_own_port c q → edge_of c q ≢ e
   other-edge q own same = let k = (h.known q own).known in
@@ -273,9 +259,8 @@ module _ (p : Port) (e : ℕ) (w : Wire) (po pn : NodePorts) (old new : NodeSeat
   own-sight : (q : Port) → is_own_port d q → sight d.view q ≡ seen_at d q
   own-sight q own = elim (own-split q own) [
     | inl old ↦ sight-still q old ∙ (quiet-seen c h before.quiet q old ∙ sym (seen-still q old))
-    | inr new ↦ subst (λ r. sight d.view r ≡ seen_at d r) (sym new)
-        (ap (λ v. sight v p) m.view ∙ (new-sight c.view ins outs le_in le_out p own-new past-new
-        ∙ sym seen-new))
+    | inr new ↦ rw new (ap (λ v. sight v p) m.view ∙ (new-sight c.view ins outs le_in le_out p
+        own-new past-new ∙ sym seen-new))
   ]
 
   all-sights : (q : Port) → sight d.view q ≡ sight (shown d) q
@@ -317,43 +302,26 @@ module _ (p : Port) (e : ℕ) (w : Wire) (po pn : NodePorts) (old new : NodeSeat
         ∙ ap (λ b. b || (e == edge_of c q)) was.known);
     wire = was.wire;
     is = ap (λ f. (end_of_view d.node f).wire) (edge-still q own) ∙ (wire-still q own ∙ was.is);
-    at_port = subst (λ n. IsEnd was.wire n q) (sym l.number) was.at_port;
+    at_port = rw l.number was.at_port;
     apart = was.apart;
-    other = (λ j. port_edge (m.sources j) (m.targets j) q)
-        ∙ (old-number p q c.sources c.targets (peer w p) (subst (λ (z : ℕ × ℕ). IsPort z.0 z.1 q)
-        (λ j. (sym h.peers.0 j, sym h.peers.1 j)) own) ∙ was.other);
+    other = grind (arith, old-number, c.sources, c.targets, h.peers.0, h.peers.1, was.other);
   }
 
   known-all : (q : Port) → is_own_port d q → PortKnown d q
-  known-all q own = elim (own-split q own) [
-    | inl old ↦ known-still q old
-    | inr new ↦ subst (PortKnown d) (sym new) known-new
-  ]
+  known-all q own = grind (arith, own-split, known-still, known-new)
 
   covers : (f : ℕ) → knows f d.node.state.seen ≡ true → HasPortOf d f
-  covers f k = elim (or_cases _ _ (sym (l.known f) ∙ k)) [
-    | inl old ↦ let was = h.cover f old in record {
-      port = was.port;
-      there = own-still was.port was.there;
-      is = edge-still was.port was.there ∙ was.is;
-    }
-    | inr new ↦ record { port = p; there = own-new; is = edge-new ∙ eqb-true e f new }
-  ]
+  covers f k = grind (arith, or_cases, own-still, edge-still, own-new, edge-new, eqb-true, h.cover)
 
   unlooked-known : (f : ℕ) → has f d.node.state.unlooked ≡ true
       → knows f d.node.state.seen ≡ true
-  unlooked-known f k = elim (or_cases _ _ (sym (l.unlooked f) ∙ k)) [
-    | inl old ↦ l.known f ∙ ap (λ b. b || (e == f)) (h.unlooked f old)
-    | inr new ↦ l.known f ∙ or_right (knows f c.node.state.seen) (e == f) new
-  ]
+  unlooked-known f k = grind (arith, or_cases, or_right, c.node.state.seen)
 
   still-bare : (f : ℕ) → knows f d.node.state.seen ≡ false → end_of_view d.node f ≡ no_end
-  still-bare f k =
-      let un = sym (l.known f) ∙ k in
-      (l.others f (λ same. both_ways (knows f c.node.state.seen || (e == f)) un
-      (or_right (knows f c.node.state.seen) (e == f) (eq-eqb e f (sym same))))).end
-      ∙ h.bare f (false_from_ne_true _ (λ was. both_ways (knows f c.node.state.seen || (e == f)) un
-      (or_left (knows f c.node.state.seen) (e == f) was)))
+  still-bare f k = (l.others f (λ same. both_ways (knows f c.node.state.seen || (e == f)) (sym
+      (l.known f) ∙ k) (or_right (knows f c.node.state.seen) (e == f) (eq-eqb e f (sym same))))).end
+      ∙ h.bare f (false_from_ne_true _ (λ was. both_ways (knows f c.node.state.seen || (e == f))
+      (sym (l.known f) ∙ k) (or_left (knows f c.node.state.seen) (e == f) was)))
 
   each-updated : (q : Port) → is_updated_port q d.updated ≡ true
   each-updated (Input i) = ap (λ b. b || is_set d.updated.inputs i) m.first
@@ -362,20 +330,16 @@ module _ (p : Port) (e : ℕ) (w : Wire) (po pn : NodePorts) (old new : NodeSeat
   need : (i : ℕ) → i < ins
       → get_or d.needed i false ≡ (flags_at (edge_of d (Input i)) d.node.state.seen).needed
   need i lt = elim (own-split (Input i) lt) [
-    | inl old ↦ ap (λ l. get_or l i false) m.needed
-        ∙ (old-need p c.needed i (let n = h.needed_len in omega (arith, old, n))
-        ∙ (h.needed i old
-        ∙ sym (ap (λ (x : InputPort). x.flags.needed) (seen-still (Input i) old))))
-    | inr new ↦ ap (λ l. get_or l i false) m.needed
-        ∙ (new-need p c.needed i (past-need p new next)
-        ∙ sym (ap (λ (x : InputPort). x.flags.needed)
-        (subst (λ r. seen_at d r ≡ new_input) (sym new) seen-new)))
+    | inl old ↦ ap (λ l. get_or l i false) m.needed ∙ (old-need p c.needed i
+        (omega (arith, old, h.needed_len)) ∙ (h.needed i old ∙ sym (ap (λ (x : InputPort).
+        x.flags.needed) (seen-still (Input i) old))))
+    | inr new ↦
+        grind (arith, new-need p c.needed i (past-need p new next), seen-new, m.needed, c.needed)
   ]
     where
       past-need : (q : Port) → Input i ≡ q → place q ≡ length (side q c.inputs c.outputs)
           → length c.needed ≤ i
-      past-need (Input k) same is = let n = h.needed_len in let s : i ≡ k = cc in
-          omega (arith, n, s, is)
+      past-need (Input k) same is = let s : i ≡ k = cc in omega (arith, h.needed_len, s, is)
       past-need (Output o) same is = absurd (cc)
 
   sound : IsSound d.view
@@ -383,25 +347,19 @@ module _ (p : Port) (e : ℕ) (w : Wire) (po pn : NodePorts) (old new : NodeSeat
 
   held : (i : ℕ) → holds_data (input_at (shown d) i).flags ≡ true
       → is_some (input_at (shown d) i).chunk ≡ true
-  held i = subst (λ (x : InputPort). holds_data x.flags ≡ true → is_some x.chunk ≡ true)
-      (all-sights (Input i)) (sound.held i)
+  held i = rw (all-sights (Input i)) at (sound.held i)
 
   ready : (o : ℕ) → o < outs → (output_at (shown d) o).needed ≡ true
       → (output_at (shown d) o).has_data ≡ false
       → slot_in (edge_of d (Output o)) d.slots ≡ Some None
   ready o lt asked empty = elim (own-split (Output o) lt) [
-    | inl old ↦
-        let shows : sight (shown d) (Output o) ≡ sight (shown c) (Output o) =
-        sym (all-sights (Output o)) ∙ (sight-still (Output o) old
-        ∙ quiet-sight c h before.quiet (Output o)) in
-        ap (λ f. slot_in f d.slots) (edge-still (Output o) old) ∙ ((same (Output o) old).slot
-        ∙ h.ready o old (sym (ap (λ (x : InputPort). x.flags.needed) shows) ∙ asked)
-        (sym (ap (λ (x : InputPort). x.flags.has_data) shows) ∙ empty))
-    | inr new ↦
-        let shows : sight (shown d) (Output o) ≡ new_input =
-        shown-at d (Output o) lt ∙ subst (λ r. seen_at d r ≡ new_input) (sym new) seen-new in
-        absurd (let z : false ≡ true = sym (ap (λ (x : InputPort). x.flags.needed) shows)
-        ∙ asked in cc)
+    | inl old ↦ let shows : sight (shown d) (Output o) ≡ sight (shown c) (Output o) = sym
+        (all-sights (Output o)) ∙ (sight-still (Output o) old ∙ quiet-sight c h before.quiet (Output
+        o)) in
+        ap (λ f. slot_in f d.slots) (edge-still (Output o) old) ∙ ((same (Output o) old).slot ∙
+        h.ready o old (sym (ap (λ (x : InputPort). x.flags.needed) shows) ∙ asked) (sym (ap (λ (x :
+        InputPort). x.flags.has_data) shows) ∙ empty))
+    | inr new ↦ grind (arith, sight (shown d) (Output o), shown-at d (Output o) lt, seen-new)
   ]
 
   more-holds : PortsHold d
@@ -412,10 +370,8 @@ module _ (p : Port) (e : ℕ) (w : Wire) (po pn : NodePorts) (old new : NodeSeat
     unlooked = unlooked-known;
     updated = λ q own k. each-updated q;
     peers = (
-      ap length m.sources ∙ (inputs-length p c.sources (peer w p)
-          ∙ (ap (λ n. n + more_inputs p) h.peers.0 ∙ sym ins-are)),
-      ap length m.targets ∙ (outputs-length p c.targets (peer w p)
-          ∙ (ap (λ n. n + more_outputs p) h.peers.1 ∙ sym outs-are)),
+      grind (arith, inputs-length p c.sources (peer w p), ins-are, c.sources, h.peers.0),
+      grind (arith, outputs-length, outs-are, m.targets, c.targets, h.peers.1),
     );
     ins = counts.0;
     outs = counts.1;
@@ -442,15 +398,12 @@ module _ (p : Port) (e : ℕ) (w : Wire) (po pn : NodePorts) (old new : NodeSeat
   passes : (q : Port) → passed d q ≡ passed c q
   passes q = elim (own-or-past d q) [
     | inl own ↦ elim (own-split q own) [
-      | inl old ↦ quiet-passed d q own quiet (own-sight q own)
-          ∙ (ap (λ f. (end_of_view d.node f).chunks) (edge-still q old)
-          ∙ (ap (λ (z : EdgeEnd). z.chunks) (same q old).end
-          ∙ sym (quiet-passed c q old before.quiet (quiet-seen c h before.quiet q old))))
-      | inr new ↦ quiet-passed d q own quiet (own-sight q own)
-          ∙ (ap (λ f. (end_of_view d.node f).chunks) (ap (edge_of d) new ∙ edge-new)
-          ∙ (ap (λ (z : EdgeEnd). z.chunks) end-new
-          ∙ sym (subst (λ r. passed c r ≡ []) (sym new)
-          (past-passed c h before.quiet p (past-side p next)))))
+      | inl old ↦ quiet-passed d q own quiet (own-sight q own) ∙ (ap (λ f. (end_of_view d.node
+          f).chunks) (edge-still q old) ∙ (ap (λ (z : EdgeEnd). z.chunks) (same q old).end ∙ sym
+          (quiet-passed c q old before.quiet (quiet-seen c h before.quiet q old))))
+      | inr new ↦ quiet-passed d q own quiet (own-sight q own) ∙ (ap (λ f. (end_of_view d.node
+          f).chunks) (ap (edge_of d) new ∙ edge-new) ∙ (ap (λ (z : EdgeEnd). z.chunks) end-new ∙ sym
+          (rw new (past-passed c h before.quiet p (past-side p next)))))
     ]
     | inr past ↦ past-passed d more-holds quiet q past
         ∙ sym (past-passed c h before.quiet q (past-was q past))
@@ -463,7 +416,7 @@ module _ (p : Port) (e : ℕ) (w : Wire) (po pn : NodePorts) (old new : NodeSeat
 
       past-was : (q : Port) → length (edges_at d q) ≤ place q → length (edges_at c q) ≤ place q
       past-was (Input i) le = let is = ins-are in omega (arith, le, is)
-      past-was (Output o) le = let is = outs-are in omega (arith, le, is)
+      past-was (Output o) le = omega (arith, le, outs-are)
 
   pub gains-port : GainsPort p e w c d
   gains-port = record {

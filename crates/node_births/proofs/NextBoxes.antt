@@ -1,23 +1,7 @@
 -- What is left of the boxes of the node that grows and of its new nodes after its next birth.
-use Rattle.core_laws.specs.declared.types.Sizes.{Sizes}
-use Rattle.exec_laws.proofs.Acting.{stays-both, stays-itself}
-use Rattle.exec_laws.proofs.Nodes.{not-blank}
-use Rattle.exec_laws.specs.Births.{Birth, HasForm, births_of, form_at, growth_list, growths_of, kept_growths}
-use Rattle.exec_laws.specs.Names.{AsksToGrow, Grew, IsBorn, StaysBox}
-use Rattle.exec_laws.specs.Prelude.{BoxPicture, GrowthForm, Loads, MayGrow}
-use Rattle.graph_checks.proofs.Imports.{List, None, Option, Some, [], ap, eq-eqb, get_or, inl, inr, length, map, refl, subst, suc, sym, ℕ, ◌++◌, ◌<◌, ◌∙◌, ◌∷◌, ◌≡◌, ◌≢◌, ◌⊎◌}
+use Rattle.node_births.proofs.Imports.{AsksToGrow, Birth, BoxPicture, Grew, GrowthForm, HasForm, IsBorn, IsBoxLeft, IsNextBirth, IsSome, IsTrue, List, Loads, MayGrow, None, Option, ReserveForm, Sizes, Some, Spec, StaysBox, [], ap, append-nil, append_assoc, births_of, cases_eq, cond, eq-eqb, form_at, get_elem?, get_or, growth_list, growths_of, inl, inr, is_some, kept_growths, length, map, map-append, ne_eqb, not-blank, refl, some, stays-both, stays-itself, suc, sym, zero, ℕ, ◌++◌, ◌<◌, ◌∙◌, ◌∷◌, ◌≡◌, ◌≢◌, ◌⊎◌}
 use Rattle.node_births.proofs.NextStands.{own-all, place-births}
 use Rattle.node_births.proofs.StandLaws.{kept-some}
-use Rattle.node_births.specs.Left.{ReserveForm}
-use Rattle.node_births.specs.NextBirths.{IsNextBirth}
-use Rattle.node_births.specs.OwnBirths.{IsBoxLeft}
-use Rattle.proc_api.proofs.Imports.{append-nil, append_assoc, cases_eq, map-append, zero}
-use Rattle.query_model.specs.declared.processor_spec.Spec.{Spec}
-use Rattle.std.proofs.Common.{IsTrue, cond, is_some}
-use Rattle.std.proofs.lemmas.Bool.{ne_eqb}
-use Rattle.std.specs.Prelude.{IsSome}
-use lib.ListN.{get_elem?}
-use mathlib.Core.Option.{some}
 
 -- ---- elements of a list with one more
 
@@ -85,21 +69,17 @@ module _ {z : Sizes} {k n : ℕ} {named : ReserveForm} {births : List Birth} {b 
   left-grown p q r born l asks grew stays = record {
     born = λ _. stays-both p q r (l.born born) stays;
     unborn = λ none. absurd (not-blank p.spec born none);
-    growth = λ lawful.
-        let was : IsTrue q.lawful = rw (← stays.same.lawful) lawful in
+    growth = λ lawful. let was : IsTrue q.lawful = rw (← stays.same.lawful) lawful in
         let own : IsBorn q = rw (l.born born).same.spec born in
         let none : kept_growths q ≡ [] = kept-none q.spec q.growth (asks.comes was).ungrown in
-        let now : kept_growths r ≡ b.growth ∷ [] =
-        kept-some r.spec r.growth (rw stays.same.spec own) ∙ ap growth_list grew.growth in
-        now ∙ ap (λ l. l ++ b.growth ∷ []) (sym none ∙ l.growth was)
-        ∙ append_assoc (kept_growths p) (growths_of n births) (b.growth ∷ [])
-        ∙ ap (λ l. kept_growths p ++ l) (sym growths-all);
-    may_grow = λ i x at of lawful.
-        let was : IsTrue q.lawful = rw (← stays.same.lawful) lawful in
+        let now : kept_growths r ≡ b.growth ∷ [] = kept-some r.spec r.growth (rw stays.same.spec
+        own) ∙ ap growth_list grew.growth in
+        now ∙ ap (λ l. l ++ b.growth ∷ []) (sym none ∙ l.growth was) ∙ append_assoc (kept_growths p)
+        (growths_of n births) (b.growth ∷ []) ∙ ap (λ l. kept_growths p ++ l) (sym growths-all);
+    may_grow = λ i x at of lawful. let was : IsTrue q.lawful = rw (← stays.same.lawful) lawful in
         elim (elem-split births b i x at) [
           | inl old ↦ rw (stays.same.spec, stays.same.files) (l.may_grow i x old of was)
-          | inr same ↦ subst (λ (y : Birth). MayGrow r.spec r.files (Some y.growth)) same
-              (rw (stays.same.spec, stays.same.files) (grew.grows was))
+          | inr same ↦ rw (← same) (rw (stays.same.spec, stays.same.files) (grew.grows was))
         ];
   }
 
@@ -119,19 +99,17 @@ module _ {z : Sizes} {k n : ℕ} {named : ReserveForm} {births : List Birth} {b 
     -- it isn't born, and knows of the birth
     pub left-unborn : (xs : List Birth) (x y : BoxPicture) → IsBoxLeft None xs p x y
         → y.spec ≡ None → IsBoxLeft None all p x y
-    left-unborn xs x y l none =
-        let same = still-unborn xs p x y l none in record {
-          born = l.born;
-          unborn = λ _. inl same;
-          growth = λ _. rw (none-grown, same) (sym (append-nil (kept_growths x)));
-          may_grow = may-none x y;
-        }
+    left-unborn xs x y l none = let same = still-unborn xs p x y l none in record {
+      born = l.born;
+      unborn = λ _. inl same;
+      growth = λ _. rw (none-grown, same) (sym (append-nil (kept_growths x)));
+      may_grow = may-none x y;
+    }
 
     -- its box was loaded by what the birth names
     pub left-newborn : (xs : List Birth) (x y u : BoxPicture) (s : Spec) → IsBoxLeft None xs p x y
         → Loads y s u → HasForm (Some s) (form_at b.growth.specs i) → IsBoxLeft None all p x u
-    left-newborn xs x y u s l loads form =
-        let same = still-unborn xs p x y l loads.was_blank in
+    left-newborn xs x y u s l loads form = let same = still-unborn xs p x y l loads.was_blank in
         let blank : x.spec ≡ None = rw same at loads.was_blank in record {
           born = λ born. absurd (not-blank x.spec born blank);
           unborn = λ _. inr record {
@@ -147,8 +125,7 @@ module _ {z : Sizes} {k n : ℕ} {named : ReserveForm} {births : List Birth} {b 
             form = form;
             stays = stays-itself u;
           };
-          growth = λ _. kept-none u.spec u.growth loads.fresh.ungrown
-              ∙ sym (ap (λ l. kept_growths x ++ l) none-grown ∙ append-nil (kept_growths x)
-              ∙ kept-blank x.spec x.growth blank);
+          growth = λ _. kept-none u.spec u.growth loads.fresh.ungrown ∙ sym (ap (λ l. kept_growths x
+              ++ l) none-grown ∙ append-nil (kept_growths x) ∙ kept-blank x.spec x.growth blank);
           may_grow = may-none x u;
         }

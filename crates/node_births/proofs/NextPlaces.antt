@@ -1,20 +1,9 @@
 -- The places of the next birth: nodes of the reserve that no earlier birth took, each once.
-use Rattle.chunk_data.specs.Places.{AreOnce}
-use Rattle.core_laws.specs.declared.types.Sizes.{Sizes}
-use Rattle.exec_laws.specs.Births.{Birth, is_place}
-use Rattle.exec_laws.specs.Prelude.{Reserve, holds_node}
-use Rattle.exec_laws.specs.declared.growth.Blank.{Blank}
-use Rattle.graph_checks.proofs.Imports.{List, ap, arith, both_ways, false, get_or, length, subst, true, ℕ, ◌<◌, ◌==◌, ◌≡◌, ◌≢◌}
+use Rattle.node_births.proofs.Imports.{AreOnce, Birth, Blank, IsNextBirth, List, Reserve, ReserveForm, Sizes, arith, both_ways, false, get_or, holds_node, is_place, length, reserve_at, subst, true, ℕ, ◌<◌, ◌==◌, ◌≡◌, ◌≢◌}
 use Rattle.node_births.proofs.BirthWires.{is-at}
 use Rattle.node_births.proofs.BlankPlaces.{counted, counted-once}
 use Rattle.node_births.proofs.ReserveLaws.{not-held}
 use Rattle.node_births.proofs.SoundBirths.{blanks-left, free-place, place-left, places-left}
-use Rattle.node_births.specs.Left.{ReserveForm, reserve_form}
-use Rattle.node_births.specs.NextBirths.{IsNextBirth}
-use Rattle.node_births.specs.OwnBirths.{reserve_after}
-use Rattle.node_cells.specs.declared.cell.NodeReserve.{NodeReserve}
-use Rattle.proc_api.proofs.Imports.{and_parts}
-use Rattle.proc_api.specs.Reserves.{reserve_at}
 
 module _ {z : Sizes} {k n : ℕ} {named : ReserveForm} {births : List Birth} {b : Birth}
     (h : IsNextBirth z k n named births b) where
@@ -42,25 +31,12 @@ module _ {z : Sizes} {k n : ℕ} {named : ReserveForm} {births : List Birth} {b 
 
   -- the reserve doesn't hold its own node, which so is no place
   pub node-unheld : holds_node n r ≡ false
-  node-unheld = subst (λ m. holds_node m r ≡ false) h.node
-      (not-held z.reserves r.node k h.in_range (h.fit.growing k h.in_range).unreserved)
+  node-unheld = rw h.node at (not-held z.reserves r.node k h.in_range (h.fit.growing k
+      h.in_range).unreserved)
 
   pub place-other : (j : ℕ) → j < length b.places → place j ≢ n
   place-other j lt is = both_ways _ node-unheld
       (subst (λ m. holds_node m r ≡ true) is (place-held j lt))
-
-  -- all are nodes of the table
-  pub place-below : (j : ℕ) → j < length b.places → place j < z.nodes
-  place-below j lt = let held = place-held j lt in
-      let within = h.fit.nodes_within k h.in_range in grind (arith, and_parts)
-
-  -- of which there are few
-  pub place-few : (s : NodeReserve) → reserve_form s ≡ reserve_after named births → (j : ℕ)
-      → j < length b.places → place j < 256
-  place-few s is j lt = let few = s.few_nodes in
-      let nodes : s.nodes ≡ named.nodes = ap (λ (x : ReserveForm). x.nodes) is in
-      let all = h.reserve.nodes in let below = place-below j lt in
-      omega (arith, few, nodes, all, below)
 
   pub node-below : n < z.nodes
   node-below = subst (λ m. m < z.nodes) h.node (h.fit.growing k h.in_range).in_range

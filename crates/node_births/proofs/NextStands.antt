@@ -1,14 +1,5 @@
 -- What the node that grows and its new nodes know of their ports after its next birth.
-use Rattle.chunk_data.proofs.Places.{count_by-append}
-use Rattle.core_laws.specs.declared.types.Sizes.{Sizes}
-use Rattle.exec_laws.specs.Births.{Birth, births_of, born_wires, grown_wires, is_place}
-use Rattle.exec_laws.specs.Growths.{form_kind, places_for}
-use Rattle.exec_laws.specs.Names.{HasEdge, IsBorn}
-use Rattle.exec_laws.specs.declared.growth.Blank.{Blank}
-use Rattle.growth_notes.specs.Rules.{AreFirst}
-use Rattle.exec_laws.specs.Prelude.{BoxPicture, GrowthForm, Input, Output, Port, Wire}
-use Rattle.exec_laws.proofs.Nodes.{not-blank}
-use Rattle.graph_checks.proofs.Imports.{Bool, List, None, [], ap, arith, eq-eqb, false, flaw_over, get_or, inl, inr, input_count, length, map, or_parts, output_count, own_wires, refl, subst, sym, true, ℕ, ◌++◌, ◌+◌, ◌<◌, ◌==◌, ◌∙◌, ◌∷◌, ◌≡◌, ◌≢◌}
+use Rattle.node_births.proofs.Imports.{AreFirst, AreReserves, AreSoundBirths, Birth, Blank, Bool, BoxPicture, EdgeRange, GainsPorts, GrowthForm, HasEdge, HasWiresOf, Input, IsBorn, IsNamedReserve, IsNextBirth, IsSoundBirth, List, LosesGrowth, NodeReserve, None, Output, Port, PortsHold, PortsPicture, ReserveForm, Sizes, StandsAmong, Wire, [], ap, append-nil, append_assoc, arith, births_of, births_range, born_edges, born_wires, cases_Bool, cases_lt, count_by-append, end_count, eq-eqb, false, filter, flat_map, flat_map-append, flaw_over, form_kind, get_or, graph_range, grown_wires, inl, input_count, inr, is_own_port, is_place, length, longer_range, map, not, not-blank, or_parts, output_count, own_wires, places_for, refl, reserve_after, reserve_at, reserve_form, subst, sum_by-append, sum_by-cons, sym, true, ℕ, ◌++◌, ◌+◌, ◌-◌, ◌<◌, ◌==◌, ◌∙◌, ◌∷◌, ◌≡◌, ◌≢◌}
 use Rattle.node_births.proofs.BirthWires.{HasNone, new-none, none-both, none-ends}
 use Rattle.node_births.proofs.FlawsLeft.{are-peers}
 use Rattle.node_births.proofs.NextPlaces.{place-free, place-held, place-other, r}
@@ -16,19 +7,6 @@ use Rattle.node_births.proofs.OwnSound.{births-apart, wires-count}
 use Rattle.node_births.proofs.ReserveLaws.{no-wires}
 use Rattle.node_births.proofs.SoundBirths.{births-append, ends-right, place-append, place-cons}
 use Rattle.node_births.proofs.TableLaws.{gained-wires, longer-wires}
-use Rattle.node_births.specs.Left.{LosesGrowth, ReserveForm, is_left, reserve_form}
-use Rattle.node_births.specs.MorePorts.{GainsPorts, end_count}
-use Rattle.node_births.specs.NextBirths.{IsNamedReserve, IsNextBirth}
-use Rattle.node_births.specs.OwnBirths.{AreSoundBirths, IsSoundBirth, StandsAmong, births_range, born_edges, graph_range, reserve_after}
-use Rattle.node_births.specs.TableEdges.{EdgeRange, HasWiresOf, longer_range}
-use Rattle.node_cells.specs.declared.cell.NodeReserve.{NodeReserve}
-use Rattle.node_ports.specs.Ports.{PortsHold, PortsPicture, is_own_port}
-use Rattle.proc_api.proofs.Imports.{append-nil, append_assoc, cases_lt}
-use Rattle.proc_api.specs.Reserves.{AreReserves, reserve_at}
-use Rattle.std.proofs.Common.{filter, flat_map, not, ◌-◌}
-use Rattle.std.proofs.lemmas.Bool.{cases_Bool}
-use Rattle.std.proofs.lemmas.Grind.{flat_map-append}
-use Rattle.std.proofs.lemmas.List.Sums.{sum_by-append, sum_by-cons}
 
 -- ---- births in order, with one more
 
@@ -38,8 +16,7 @@ sound-more : (wires : List Wire) (n : ℕ) (r : ReserveForm) (e xs : List Birth)
 sound-more wires n r e [] b h k = (rw append-nil at k, tt)
 sound-more wires n r e (x ∷ xs) b h k = (
   h.0,
-  sound-more wires n r (e ++ x ∷ []) xs b h.1
-      (subst (λ l. IsSoundBirth wires n r l b) (sym (append_assoc e (x ∷ []) xs)) k),
+  sound-more wires n r (e ++ x ∷ []) xs b h.1 (rw ((append_assoc e (x ∷ []) xs)) k),
 )
 
 grown-more : (wires : List Wire) (xs ys : List Birth)
@@ -66,24 +43,17 @@ filter-both : (xs ys : List Birth) (blanks : List Blank)
     ≡ filter (λ (x : Blank). not (is_place (xs ++ ys) x.node)) blanks
 filter-both xs ys [] = refl
 filter-both xs ys (x ∷ blanks) = let rest = filter-both xs ys blanks in
-    let all = place-append xs ys x.node in elim (cases_Bool (is_place xs x.node)) [
-      | inl on ↦ rw (all, on) rest
-      | inr off ↦ elim (cases_Bool (is_place ys x.node)) [
-        | inl on ↦ rw (all, off, on) rest
-        | inr free ↦ rw (all, off, free) (ap (λ l. x ∷ l) rest)
-      ]
-    ]
+    let all = place-append xs ys x.node in
+    grind (arith, cases_Bool (is_place xs x.node), cases_Bool (is_place ys x.node), x.node)
 
 -- births leave of a reserve what later ones leave of what earlier ones left
 pub reserve-both : (r : ReserveForm) (xs ys : List Birth)
     → reserve_after (reserve_after r xs) ys ≡ reserve_after r (xs ++ ys)
-reserve-both r xs ys =
-    let sum = sum_by-append (λ (x : Birth). length x.growth.edges) xs ys in
-    let edges : r.left.edges - born_edges xs - born_edges ys
-    ≡ r.left.edges - born_edges (xs ++ ys) = omega (arith, sum) in
+reserve-both r xs ys = let sum = sum_by-append (λ (x : Birth). length x.growth.edges) xs ys in
+    let edges : r.left.edges - born_edges xs - born_edges ys ≡ r.left.edges - born_edges (xs ++ ys)
+    = omega (arith, sum) in
     let next : r.next_edge + born_edges xs + born_edges ys ≡ r.next_edge + born_edges (xs ++ ys) =
-    omega (arith, sum) in
-    λ j. record {
+    omega (arith, sum) in λ j. record {
       rank = r.rank;
       nodes = r.nodes;
       left = record { blanks = filter-both xs ys r.left.blanks j; edges = edges j };
@@ -94,20 +64,10 @@ reserve-both r xs ys =
 pub loses-birth : (b : Birth) (old new : NodeReserve)
     → LosesGrowth b.places (length b.growth.edges) old new
     → reserve_form new ≡ reserve_after (reserve_form old) (b ∷ [])
-loses-birth b old new h =
-    let one = sum_by-cons (λ (x : Birth). length x.growth.edges) b [] in
-    let left = h.left in let next = h.next_edge in
-    let edges : new.edges ≡ old.edges - born_edges (b ∷ []) = omega (arith, left, one) in
-    let first : new.next_edge ≡ old.next_edge + born_edges (b ∷ []) = omega (arith, next, one) in
-    let blanks : new.blanks.items
-    ≡ filter (λ (x : Blank). not (is_place (b ∷ []) x.node)) old.blanks.items =
-    h.blanks ∙ ap (λ l. filter (is_left l) old.blanks.items) (sym (append-nil b.places)) in
-    λ j. record {
-      rank = h.rank j;
-      nodes = h.nodes j;
-      left = record { blanks = blanks j; edges = edges j };
-      next_edge = first j;
-    }
+loses-birth b old new h = let one = sum_by-cons (λ (x : Birth). length x.growth.edges) b [] in
+    let edges : new.edges ≡ old.edges - born_edges (b ∷ []) = omega (arith, h.left, one) in
+    let first : new.next_edge ≡ old.next_edge + born_edges (b ∷ []) =
+    omega (arith, h.next_edge, one) in grind (arith, append-nil b.places, b.places, h.rank, h.nodes)
 
 -- ---- a growth without a flaw is the next birth
 
@@ -136,7 +96,7 @@ next-birth z k n first named births c reserve box g lt node fit of own s holds b
       fit = fit;
       reserve = of;
       own = own;
-      earlier = subst (AreSoundBirths z.wires n named []) own s.sound;
+      earlier = rw own at s.sound;
       next = record {
         expander = refl;
         ranked = ranked;
@@ -158,12 +118,7 @@ pub stands-anywhere : (wires : List Wire) (f first n : ℕ) (named s : ReserveFo
     → StandsAmong wires first [] n named c s x
 stands-anywhere wires f first n named s c x h = record {
   number = h.number;
-  wired = record {
-    each = λ q own. elim (h.wired.each q own) [
-      | inl y ↦ inl y
-      | inr y ↦ let none = y.has_edge.in_range in absurd (omega (arith, none))
-    ];
-  };
+  wired = grind (arith, h.wired.each);
   ins = h.ins;
   outs = h.outs;
   reserve_is = h.reserve_is;
@@ -190,23 +145,20 @@ module _ {z : Sizes} {k n : ℕ} {named : ReserveForm} {births : List Birth} {b 
 
   -- a node that knows of the first births knows its wires among those of more
   pub wired-more : (xs ys : List Birth) (c : PortsPicture) → WiredBy xs c → WiredBy (xs ++ ys) c
-  wired-more xs ys c w = subst (λ (x : EdgeRange). HasWiresOf (graph_range z.wires) x c)
-      (sym (range-both xs ys))
-      (longer-wires (graph_range z.wires) (births_range first xs) (flat_map born_wires ys) c w)
+  wired-more xs ys c w = subst (λ (x : EdgeRange). HasWiresOf (graph_range z.wires) x c) (sym
+      (range-both xs ys)) (longer-wires _ _ _ _ w)
 
   -- and the ports that it gets have wires of the last one
   wired-gets : (consumer : Bool) (count : ℕ) (c d : PortsPicture) → WiredBy all c
       → GainsPorts consumer next (born_wires b) count c d → WiredBy all d
-  wired-gets consumer count c d w g =
-      let len = wires-count births in let at = h.reserve.next_edge in
-      let start : next ≡ first + length (flat_map born_wires births) = omega (arith, len, at) in
+  wired-gets consumer count c d w g = let start : next ≡ first + length (flat_map born_wires births)
+      = omega (arith, wires-count births, h.reserve.next_edge) in
       let same : births_range first all ≡ longer_range (births_range first births) (born_wires b) =
-      range-both births (b ∷ []) ∙ ap (longer_range (births_range first births))
-      (append-nil (born_wires b)) in
-      subst (λ (x : EdgeRange). HasWiresOf (graph_range z.wires) x d) (sym same)
-      (gained-wires (graph_range z.wires) (births_range first births) (born_wires b) consumer count
-      c d (subst (λ (x : EdgeRange). HasWiresOf (graph_range z.wires) x c) same w)
-      (subst (λ f. GainsPorts consumer f (born_wires b) count c d) start g))
+      range-both births (b ∷ []) ∙ ap (longer_range (births_range first births)) (append-nil
+      (born_wires b)) in
+      subst (λ (x : EdgeRange). HasWiresOf (graph_range z.wires) x d) (sym same) (gained-wires _ _ _
+      _ _ _ _ (subst (λ (x : EdgeRange). HasWiresOf (graph_range z.wires) x c) same w) (subst (λ f.
+      GainsPorts consumer f (born_wires b) count c d) start g))
 
   -- the wires at a node are those before and those of the birth
   counts-all : (m : ℕ) → (input_count (grown_wires z.wires all) m
@@ -214,14 +166,8 @@ module _ {z : Sizes} {k n : ℕ} {named : ReserveForm} {births : List Birth} {b 
       × (output_count (grown_wires z.wires all) m
       ≡ output_count (grown_wires z.wires births) m + output_count (born_wires b) m)
   counts-all m = let same : grown_wires z.wires births ++ born_wires b ≡ grown_wires z.wires all =
-      ap (λ l. grown_wires z.wires births ++ l) (sym (append-nil (born_wires b)))
-      ∙ grown-more z.wires births (b ∷ []) in (
-        ap (λ l. input_count l m) (sym same)
-            ∙ count_by-append (λ (w : Wire). w.to == m) (grown_wires z.wires births) (born_wires b),
-        ap (λ l. output_count l m) (sym same)
-            ∙ count_by-append (λ (w : Wire). w.from == m) (grown_wires z.wires births)
-            (born_wires b),
-      )
+      grind (arith, append-nil (born_wires b), grown-more z.wires births (b ∷ []), z.wires) in
+      grind (arith, count_by-append, z.wires)
 
   pub own-all : births_of n all ≡ all
   own-all = births-append n births (b ∷ []) ∙ rw (h.own, eq-eqb b.expander n h.next.expander) refl
@@ -235,15 +181,12 @@ module _ {z : Sizes} {k n : ℕ} {named : ReserveForm} {births : List Birth} {b 
       → GainsPorts false next (born_wires b) (end_count false (born_wires b) c.node.number) c d
       → GainsPorts true next (born_wires b) (end_count true (born_wires b) d.node.number) d e
       → StandsAmong z.wires first all n named e (reserve_after reserve (b ∷ [])) q
-  stands-grown c d e reserve p q s born outs ins =
-      let counts = counts-all n in
-      let at : d.node.number ≡ n = outs.gains.number ∙ s.number in
-      let out_more = outs.more in let in_more = ins.more in
-      let in_same = ap length outs.others in let out_same = ap length ins.others in
-      let before = s.ins born in let was = s.outs born in
+  stands-grown c d e reserve p q s born outs ins = let counts = counts-all n in
+      let at : d.node.number ≡ n = outs.gains.number ∙ s.number in let out_more = outs.more in
+      let in_more = ins.more in let in_same = ap length outs.others in
+      let out_same = ap length ins.others in let before = s.ins born in let was = s.outs born in
       let more_out = ap (output_count (born_wires b)) s.number in
-      let more_in = ap (input_count (born_wires b)) at in
-      record {
+      let more_in = ap (input_count (born_wires b)) at in record {
         number = ins.gains.number ∙ at;
         wired = wired-gets true _ d e (wired-gets false _ c d
             (wired-more births (b ∷ []) c s.wired) outs) ins;
@@ -251,7 +194,7 @@ module _ {z : Sizes} {k n : ℕ} {named : ReserveForm} {births : List Birth} {b 
         outs = λ _. omega (arith, out_more, out_same, was, more_out, counts.1);
         reserve_is = ap (λ x. reserve_after x (b ∷ [])) (s.reserve_is ∙ ap (reserve_after named)
             h.own) ∙ reserve-both named births (b ∷ []) ∙ ap (reserve_after named) (sym own-all);
-        sound = subst (AreSoundBirths z.wires n named []) (sym own-all) sound-all;
+        sound = rw own-all sound-all;
       }
 
   -- ---- a new node
@@ -261,10 +204,9 @@ module _ {z : Sizes} {k n : ℕ} {named : ReserveForm} {births : List Birth} {b 
     p = get_or b.places i 0
 
     none-before : HasNone (grown_wires z.wires births) p
-    none-before = none-both z.wires (flat_map born_wires births) p
-        (no-wires h.fit p k h.in_range (place-held h i lt))
-        (sound-none z.wires n named [] births p (λ e. place-other h i lt (sym e))
-        (place-free h i lt) h.earlier)
+    none-before = none-both z.wires (flat_map born_wires births) p (no-wires h.fit p k h.in_range
+        (place-held h i lt)) (sound-none z.wires n named [] births p (λ e. place-other h i lt (sym
+        e)) (place-free h i lt) h.earlier)
 
     -- no birth is its own
     pub place-births : births_of p all ≡ []
@@ -287,17 +229,16 @@ module _ {z : Sizes} {k n : ℕ} {named : ReserveForm} {births : List Birth} {b 
         → (IsBorn y → (length d.inputs ≡ input_count (born_wires b) p)
         × (length d.outputs ≡ output_count (born_wires b) p))
         → StandsAmong z.wires first all p own d s y
-    stands-place consumer xs own s count c d x y known st gains has =
-        let counts = counts-all p in let none = none-before in record {
-          number = gains.gains.number ∙ st.number;
-          wired = wired-gets consumer count c d (subst (λ l. WiredBy l c) (sym known.all)
-              (wired-more xs known.later c st.wired)) gains;
-          ins = λ born. let is = (has born).0 in omega (arith, is, counts.0, none.0);
-          outs = λ born. let is = (has born).1 in omega (arith, is, counts.1, none.1);
-          reserve_is = st.reserve_is ∙ ap (reserve_after own) (first-births xs known
-              ∙ sym place-births);
-          sound = subst (AreSoundBirths z.wires p own []) (sym place-births) tt;
-        }
+    stands-place consumer xs own s count c d x y known st gains has = record {
+      number = gains.gains.number ∙ st.number;
+      wired = wired-gets consumer count c d (subst (λ l. WiredBy l c) (sym known.all)
+          (wired-more xs known.later c st.wired)) gains;
+      ins = λ born. omega (arith, (has born).0, (counts-all p).0, none-before.0);
+      outs = λ born. omega (arith, (has born).1, (counts-all p).1, none-before.1);
+      reserve_is = st.reserve_is ∙ ap (reserve_after own) (first-births xs known
+          ∙ sym place-births);
+      sound = rw place-births tt;
+    }
 
     -- it isn't born, and gets its outputs
     pub stands-unborn : (xs : List Birth) (own s : ReserveForm) (count : ℕ) (c d : PortsPicture)
@@ -315,8 +256,7 @@ module _ {z : Sizes} {k n : ℕ} {named : ReserveForm} {births : List Birth} {b 
         → StandsAmong z.wires first all p own d s y
     stands-newborn xs own s c d x y known st no_ins has_outs gains =
         stands-place true xs own s _ c d x y known st gains (λ _. (
-          let more = gains.more in let at = ap (input_count (born_wires b)) st.number in
-              omega (arith, more, at, no_ins),
+          grind (arith, st.number),
           ap length gains.others ∙ has_outs,
         ))
 
@@ -343,10 +283,7 @@ module _ {z : Sizes} {k n : ℕ} {named : ReserveForm} {births : List Birth} {b 
         no-end (Output j) e x = (none-ends z.wires p graph-none e x.in_range).0 x.at_port.0
 
         no-port : (q : Port) → is_own_port c q → ⊥
-        no-port q own = elim (st.wired.each q own) [
-          | inl y ↦ no-end q y.place (subst (λ m. HasEdge z.wires m q y.place) st.number y.has_edge)
-          | inr y ↦ let none = y.has_edge.in_range in omega (arith, none)
-        ]
+        no-port q own = grind (arith, no-end, st.wired.each, z.wires, st.number)
 
     -- so with all its ports, before which it knew of no births
     pub stands-whole : (f : ℕ) (own s : ReserveForm) (c d e : PortsPicture) (x y : BoxPicture)

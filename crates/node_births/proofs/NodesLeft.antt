@@ -1,15 +1,11 @@
 -- What each node by itself tells of all births: which of them touch it, and what its box is.
-use Rattle.node_births.proofs.Imports.{AllByRecursion, AreOnce, Birth, Blank, Bool, BoxPicture, IsBorn, IsGraph, List, None, Reserve, Wire, [], all_places, ap, append-nil, arith, births_of, born_wires, both_ways, cases_Bool, count_by, count_by-append, count_by-once, eq-eqb, eqb-true, false, false_from_ne_true, filter, filter-append, flat_map, get_elem?, grown_ranks, grown_wires, holds_node, inl, input_count, inr, is_place, is_some, length, list_any, list_any_at, or_parts, or_right, output_count, place-of, refl, some, subst, suc, sym, true, zero, ℕ, ⊎_elim, ◌++◌, ◌+◌, ◌<◌, ◌==◌, ◌||◌, ◌∙◌, ◌∷◌, ◌≡◌, ◌≢◌, ◌⊎◌}
+use Rattle.node_births.proofs.Imports.{AllByRecursion, AreNodesLeft, AreOnce, Birth, Blank, Bool, BoxPicture, GraphBefore, IsBorn, IsBoxLeft, IsGraph, IsHeldBy, List, NodeLeft, None, Reserve, ReserveForm, StandsFrom, WasBorn, [], all_births, all_places, ap, append-nil, arith, births_of, born_wires, both_ways, box_at, cases_Bool, count_by-append, count_by-once, eq-eqb, eqb-true, false, false_from_ne_true, filter, filter-append, get_elem?, grown_ranks, grown_wires, holds_node, inl, input_count, inr, is_place, is_some, length, list_any, list_any_at, or_parts, or_right, output_count, place-of, refl, reserve_at, reserve_before, some, subst, suc, sym, true, zero, ℕ, ⊎_elim, ◌++◌, ◌+◌, ◌<◌, ◌==◌, ◌||◌, ◌∙◌, ◌∷◌, ◌≡◌, ◌≢◌, ◌⊎◌}
 use Rattle.node_births.proofs.BirthWires.{HasNone, birth-none, counts-of, held-other, no-births, no-place}
 use Rattle.node_births.proofs.BlankPlaces.{is-counted, node_count}
 use Rattle.node_births.proofs.GraphsLeft.{graph-left, once-left}
 use Rattle.node_births.proofs.OwnSound.{all-sound, births_at, each-sound, few-wires, grows-by, none-passes, one-passes, others-none, own_births}
 use Rattle.node_births.proofs.ReserveLaws.{grower-unheld, held-below, held-blank, node-once, r_at, unheld-born}
 use Rattle.node_births.proofs.SoundBirths.{IsOfReserve, all-places, are-of-reserves, blanks-left, place-append, place-cons, place-own}
-use Rattle.node_births.specs.LeftNodes.{AreNodesLeft, GraphBefore, IsHeldBy, NodeLeft, StandsFrom, all_births, reserve_before}
-use Rattle.node_births.specs.Left.{ReserveForm}
-use Rattle.node_births.specs.OwnBirths.{IsBoxLeft, WasBorn}
-unfoldable use Rattle.node_births.proofs.Imports.{box_at, reserve_at}
 
 -- ---- births that touch a node: it grew, or is a place
 
@@ -19,8 +15,7 @@ touches n b = (b.expander == n) || list_any (λ (k : ℕ). k == n) b.places
 untouched : (n : ℕ) (births : List Birth) → births_of n births ≡ [] → is_place births n ≡ false
     → filter (touches n) births ≡ []
 untouched n [] h off = refl
-untouched n (b ∷ births) h off =
-    let parts = or_parts _ _ (sym (place-cons b births n) ∙ off) in
+untouched n (b ∷ births) h off = let parts = or_parts _ _ (sym (place-cons b births n) ∙ off) in
     let free : list_any (λ (k : ℕ). k == n) b.places ≡ false = parts.0 in
     elim (cases_Bool (b.expander == n)) [
       | inl on ↦ absurd (let e = rw on at h in cc)
@@ -33,10 +28,8 @@ births-touching : (n : ℕ) (births : List Birth)
 births-touching n [] = refl
 births-touching n (b ∷ births) = elim (cases_Bool (b.expander == n)) [
   | inl on ↦ rw (on, on) (ap (λ l. b ∷ l) (births-touching n births))
-  | inr other ↦ elim (cases_Bool (list_any (λ (k : ℕ). k == n) b.places)) [
-    | inl place ↦ rw (other, place, other) (births-touching n births)
-    | inr off ↦ rw (other, off) (births-touching n births)
-  ]
+  | inr other ↦
+      grind (arith, cases_Bool, births-touching n births, births-touching n births, b.places)
 ]
 
 -- the node is a place of the birth that is at this place of a list
@@ -53,11 +46,7 @@ pub place-once : (xs ys : List Birth) (m : ℕ) → AreOnce (all_places (xs ++ y
 place-once xs ys m once on = false_from_ne_true _ (λ again.
     let p = place-of (all_places (xs ++ ys)) m (place-append xs ys m ∙ rw on refl) in
     let all = count_by-once (all_places (xs ++ ys)) m once p.place p.in_range p.is in
-    let split = ap (λ l. count_by (λ (k : ℕ). k == m) l) (all-places xs ys)
-    ∙ count_by-append (λ (k : ℕ). k == m) (all_places xs) (all_places ys) in
-    let a = is-counted (λ (k : ℕ). k == m) (all_places xs) on in
-    let b = is-counted (λ (k : ℕ). k == m) (all_places ys) again in
-    absurd (omega (arith, all, split, a, b)))
+    grind (arith, all-places, count_by-append, is-counted))
 
 -- ---- which reserve has a node
 
@@ -68,12 +57,8 @@ which test [] = inr (λ j lt. absurd (omega (arith, lt)))
 which test (r ∷ rs) = elim (cases_Bool (test r)) [
   | inl on ↦ inl (0, omega arith, on)
   | inr off ↦ elim (which test rs) [
-    | inl p ↦ inl (suc p.0, (let lt = p.1 in omega (arith, lt)), p.2)
-    | inr none ↦ inr (λ j lt. elim j as (λ i. i < length (r ∷ rs)
-        → test (reserve_at (r ∷ rs) i) ≡ false) [
-          | zero ↦ λ _. off
-          | suc i ↦ λ less. none i (omega (arith, less))
-        ] lt)
+    | inl p ↦ inl (suc p.0, (omega (arith, p.1)), p.2)
+    | inr none ↦ grind (arith, off)
   ]
 ]
 
@@ -138,14 +123,12 @@ module _ {g : GraphBefore} {nodes : ℕ → NodeLeft} {after : List BoxPicture}
 
     -- an unborn one is no place
     unborn-free : (nodes m).box.spec ≡ None → is_place own m ≡ false
-    unborn-free none = false_from_ne_true _ (λ on.
-        let x = grows-by h k lt in
+    unborn-free none = false_from_ne_true _ (λ on. let x = grows-by h k lt in
         let one = is-counted (λ (b : Blank). b.node == m) (nodes grower).reserve.left.blanks
         (held-by.unborn none) in
         let left = ap (λ (r : ReserveForm). node_count r.left.blanks m) x.stands.reserve_is in
-        let off = (blanks-left (births_of grower own) (reserve_before g grower).left.blanks m).1
-        (subst (λ l. is_place l m ≡ true) (sym x.own) on) in
-        absurd (omega (arith, one, left, off)))
+        let off = (blanks-left (births_of grower own) (reserve_before g grower).left.blanks m).1 (rw
+        x.own on) in absurd (omega (arith, one, left, off)))
 
     place-born : WasBorn (nodes m).births m (box_at g.boxes m) (nodes m).box
         → is_place (nodes m).births m ≡ true
@@ -199,17 +182,14 @@ module _ {g : GraphBefore} {nodes : ℕ → NodeLeft} {after : List BoxPicture}
 
     -- the births that touch it are among those that it knows of
     held-touching : filter (touches m) all ≡ filter (touches m) (nodes m).births
-    held-touching =
-        let later = held-by.first.later in
-        one-passes (births_at h) (touches m) g.reserves k lt (λ j lj ne. untouched m
-        (own_births h j) (no-births h.before m (held-other h.before m k lt here) (own_births h j)
-        (each-of j lj)) (others-free j lj ne))
-        ∙ ap (filter (touches m)) own-split ∙ filter-append (touches m) (nodes m).births later
-        ∙ ap (λ l. filter (touches m) (nodes m).births ++ l) (untouched m later
-        (no-births h.before m (held-other h.before m k lt here) later
-        (all-behind IsOf (nodes m).births later (subst (AllByRecursion IsOf) own-split
-        (each-of k lt)))) later-free)
-        ∙ append-nil (filter (touches m) (nodes m).births)
+    held-touching = let later = held-by.first.later in
+        one-passes (births_at h) (touches m) g.reserves k lt (λ j lj ne. untouched m (own_births h
+        j) (no-births h.before m (held-other h.before m k lt here) (own_births h j) (each-of j lj))
+        (others-free j lj ne)) ∙ ap (filter (touches m)) own-split ∙ filter-append (touches m)
+        (nodes m).births later ∙ ap (λ l. filter (touches m) (nodes m).births ++ l) (untouched m
+        later (no-births h.before m (held-other h.before m k lt here) later (all-behind IsOf (nodes
+        m).births later (subst (AllByRecursion IsOf) own-split (each-of k lt)))) later-free) ∙
+        append-nil (filter (touches m) (nodes m).births)
       where
         all-behind : {A : Type 0} (P : A → Type 0) (xs ys : List A) → AllByRecursion P (xs ++ ys)
             → AllByRecursion P ys
@@ -220,11 +200,9 @@ module _ {g : GraphBefore} {nodes : ℕ → NodeLeft} {after : List BoxPicture}
 
   pub births-own : (k : ℕ) → k < length g.reserves
       → births_of (r_at h.before k).node all ≡ own_births h k
-  births-own k lt =
-      let n : ℕ = (r_at h.before k).node in
-      one-passes (births_at h) (λ (b : Birth). b.expander == n) g.reserves k lt
-      (λ j lj ne. others-none h j lj n (λ e. ne (node-once h.before j k lj lt e)))
-      ∙ (grows-by h k lt).own
+  births-own k lt = let n : ℕ = (r_at h.before k).node in
+      one-passes (births_at h) (λ (b : Birth). b.expander == n) g.reserves k lt (λ j lj ne.
+      others-none h j lj n (λ e. ne (node-once h.before j k lj lt e))) ∙ (grows-by h k lt).own
 
   pub place-is : (m k : ℕ) → k < length g.reserves → holds_node m (r_at h.before k) ≡ true
       → is_place all m ≡ is_place (own_births h k) m
@@ -254,7 +232,7 @@ module _ {g : GraphBefore} {nodes : ℕ → NodeLeft} {after : List BoxPicture}
   -- the births that a node knows of are births of reserves
   pub known-of : (n : ℕ) → n < length g.boxes → AllByRecursion IsOf (nodes n).births
   known-of n lb = elim (standing n) [
-    | growing k lt is ↦ subst (λ m. AllByRecursion IsOf (nodes m).births) is (each-of k lt)
+    | growing k lt is ↦ rw is at (each-of k lt)
     | held k lt here ↦ all-first IsOf (nodes n).births (held-by n k lt here).first.later
         (subst (AllByRecursion IsOf) (held-by n k lt here).first.all (each-of k lt))
     | alone out ↦ rw ((h.each n lb).alone out).none tt
@@ -269,27 +247,17 @@ module _ {g : GraphBefore} {nodes : ℕ → NodeLeft} {after : List BoxPicture}
   pub wires-known : (n : ℕ) → n < length g.boxes → (input_count (grown_wires g.wires all) n ≡
       input_count (grown_wires g.wires (nodes n).births) n) × (output_count (grown_wires g.wires
       all) n ≡ output_count (grown_wires g.wires (nodes n).births) n)
-  wires-known n lb =
-      let a = counts-of h.before n (touches n) all (tested all all-of) in
-      let b = counts-of h.before n (touches n) (nodes n).births
-      (tested (nodes n).births (known-of n lb)) in
-      let same = touching n lb in
-      let ins = count_by-append (λ (w : Wire). w.to == n) g.wires in
-      let outs = count_by-append (λ (w : Wire). w.from == n) g.wires in (
-        ins (flat_map born_wires all) ∙ ap (λ c. input_count g.wires n + c)
-            (a.0 ∙ ap (λ l. input_count (flat_map born_wires l) n) same ∙ sym b.0)
-            ∙ sym (ins (flat_map born_wires (nodes n).births)),
-        outs (flat_map born_wires all) ∙ ap (λ c. output_count g.wires n + c)
-            (a.1 ∙ ap (λ l. output_count (flat_map born_wires l) n) same ∙ sym b.1)
-            ∙ sym (outs (flat_map born_wires (nodes n).births)),
-      )
+  wires-known n lb = let a = counts-of h.before n (touches n) all (tested all all-of) in
+      let b = counts-of h.before n (touches n) (nodes n).births (tested (nodes n).births (known-of n
+      lb)) in let same = touching n lb in
+      grind (arith, count_by-append, g.wires, a.0, b.0, a.1, b.1)
     where
       tested : (xs : List Birth) → AllByRecursion IsOf xs → AllByRecursion
           (λ (b : Birth). touches n b ≡ false → HasNone (born_wires b) n) xs
       tested [] k = tt
       tested (b ∷ xs) k = (
-        λ off. let parts = or_parts _ _ off in
-            birth-none h.before n b k.0 (λ e. both_ways _ parts.0 (eq-eqb b.expander n e)) parts.1,
+        λ off. birth-none h.before n b k.0 (λ e. both_ways _ (or_parts _ _ off).0 (eq-eqb b.expander
+            n e)) (or_parts _ _ off).1,
         tested xs k.1,
       )
 
@@ -310,9 +278,7 @@ module _ {g : GraphBefore} {nodes : ℕ → NodeLeft} {after : List BoxPicture}
   -- a node that no reserve holds is born
   pub born-still : (n : ℕ) → n < length g.boxes → ((k : ℕ) → k < length g.reserves
       → holds_node n (r_at h.before k) ≡ false) → IsBorn (nodes n).box
-  born-still n lb out =
-      let born = unheld-born h.before n lb out in
-      rw (((h.each n lb).leaves.born born).same.spec) born
+  born-still n lb out = grind (arith, unheld-born h.before n lb out, h.before, h.each)
 
   -- a node stands among the wires of the births that it knows of
   pub stands-from : (n : ℕ) → n < length g.boxes → (first : ℕ) × StandsFrom g nodes n first

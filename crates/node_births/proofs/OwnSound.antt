@@ -1,11 +1,7 @@
 -- The births of all reserves are births without a flaw, in order.
-use Rattle.node_births.proofs.Imports.{Birth, Bool, BoxPicture, List, Reserve, Wire, [], ap, append-nil, append_assoc, arith, births_of, born_wires, cases_eq, eq-eqb, filter, filter-append, flat_map, flat_map-append, get_or-append_seam, get_or_append_left, grown_wires, length, length-append, length-map, ne_eqb, new_wire, no_reserve, refl, reserved_edges, subst, suc, sum_by-append, sum_by-cons, sym, zero, ℕ, ◌++◌, ◌<◌, ◌==◌, ◌∙◌, ◌∷◌, ◌≡◌, ◌≢◌, ◌≤◌}
+use Rattle.node_births.proofs.Imports.{AreNodesLeft, AreSoundBirths, Birth, Bool, BoxPicture, GraphBefore, GrowsBy, List, NodeLeft, Reserve, ReserveForm, Wire, [], all_births, ap, append-nil, append_assoc, arith, births_of, born_edges, born_wires, cases_eq, eq-eqb, filter, filter-append, flat_map, flat_map-append, get_or-append_seam, get_or_append_left, grown_wires, length, length-append, length-map, ne_eqb, new_wire, no_reserve, refl, reserve_at, reserve_before, reserved_edges, suc, sum_by-append, sum_by-cons, sym, zero, ℕ, ◌++◌, ◌<◌, ◌==◌, ◌∙◌, ◌∷◌, ◌≡◌, ◌≢◌, ◌≤◌}
 use Rattle.node_births.proofs.ReserveLaws.{r_at, reserve-of}
 use Rattle.node_births.proofs.SoundBirths.{AreSoundAfter, no-flaw, sound-both, sound-own}
-use Rattle.node_births.specs.LeftNodes.{AreNodesLeft, GraphBefore, GrowsBy, NodeLeft, all_births, reserve_before}
-use Rattle.node_births.specs.Left.{ReserveForm}
-use Rattle.node_births.specs.OwnBirths.{AreSoundBirths, born_edges}
-unfoldable use Rattle.node_births.proofs.Imports.{reserve_at}
 
 -- ---- one piece of many
 
@@ -38,8 +34,7 @@ births-apart m n ne (b ∷ births) =
 
 pub wires-count : (births : List Birth) → length (flat_map born_wires births) ≡ born_edges births
 wires-count [] = refl
-wires-count (b ∷ births) =
-    let all = length-append (born_wires b) (flat_map born_wires births) in
+wires-count (b ∷ births) = let all = length-append (born_wires b) (flat_map born_wires births) in
     let own = length-map b.growth.edges (new_wire b.expander b.places) in
     let rest = wires-count births in
     let sum = sum_by-cons (λ (x : Birth). length x.growth.edges) b births in
@@ -91,46 +86,36 @@ module _ {g : GraphBefore} {nodes : ℕ → NodeLeft} {after : List BoxPicture}
       → length (flat_map born_wires (flat_map births_at rs)) ≤ reserved_edges rs
   unfolding reserve_at
   all-few [] k = omega arith
-  all-few (r ∷ rs) k =
-      let rest = all-few rs (λ j lt. k (suc j) (omega (arith, lt))) in
+  all-few (r ∷ rs) k = let rest = all-few rs (λ j lt. k (suc j) (omega (arith, lt))) in
       let one = k 0 (omega arith) in
       let split = flat_map-append born_wires (births_at r) (flat_map births_at rs) in
-      let len = length-append (flat_map born_wires (births_at r))
-      (flat_map born_wires (flat_map births_at rs)) in
-      let sum = sum_by-cons (λ (x : Reserve). x.edges) r rs in
+      let len = length-append (flat_map born_wires (births_at r)) (flat_map born_wires (flat_map
+      births_at rs)) in let sum = sum_by-cons (λ (x : Reserve). x.edges) r rs in
       omega (arith, rest, one, ap length split, len, sum)
 
   -- no more edges are wired than the reserves have
   pub few-wires : length (grown_wires g.wires (all_births g nodes)) ≤ 1024
-  few-wires =
-      let few = all-few g.reserves own-few in
-      let room = h.before.graph.so_far.few_edges in
-      let len = length-append g.wires (flat_map born_wires (all_births g nodes)) in
-      omega (arith, few, room, len)
+  few-wires = let few = all-few g.reserves own-few in let room = h.before.graph.so_far.few_edges in
+      grind (arith, length-append g.wires (flat_map born_wires (all_births g nodes)), g.wires)
 
   sound-from : (rs : List Reserve) (pre : List Reserve) → g.reserves ≡ pre ++ rs
       → AreSoundAfter h.before (flat_map births_at pre) (flat_map births_at rs)
   unfolding reserve_at
   sound-from [] pre split = tt
-  sound-from (r ∷ rs) pre split =
-      let k : ℕ = length pre in
-      let lt : k < length g.reserves =
-      (let len = length-append pre (r ∷ rs) in omega (arith, len, ap length split)) in
-      let here : r_at h.before k ≡ r = rw split (get_or-append_seam pre r rs no_reserve) in
-      let earlier : births_of r.node (flat_map births_at pre) ≡ [] =
-      none-passes births_at (λ (b : Birth). b.expander == r.node) pre (λ j lj.
+  sound-from (r ∷ rs) pre split = let k : ℕ = length pre in
+      let lt : k < length g.reserves = (omega (arith, length-append pre (r ∷ rs), ap length split))
+      in let here : r_at h.before k ≡ r = rw split (get_or-append_seam pre r rs no_reserve) in
+      let earlier : births_of r.node (flat_map births_at pre) ≡ [] = none-passes births_at (λ (b :
+      Birth). b.expander == r.node) pre (λ j lj.
       let less : j < length g.reserves = omega (arith, lj, lt) in
-      let same : r_at h.before j ≡ reserve_at pre j =
-      rw split (get_or_append_left pre (r ∷ rs) no_reserve j lj) in
-      subst (λ (q : Reserve). births_of r.node (births_at q) ≡ []) same (others-none j less r.node
-      (λ e. (h.before.fit.apart j k lj lt).growing
-      (e ∙ ap (λ (q : Reserve). q.node) (sym here))))) in
-      sound-both h.before (flat_map births_at pre) (births_at r) (flat_map births_at rs)
-      (subst (λ (q : Reserve). AreSoundAfter h.before (flat_map births_at pre) (births_at q)) here
+      let same : r_at h.before j ≡ reserve_at pre j = rw split (get_or_append_left pre (r ∷ rs)
+      no_reserve j lj) in
+      rw same at (others-none j less r.node (λ e. (h.before.fit.apart j k lj lt).growing (e ∙ ap (λ
+      (q : Reserve). q.node) (sym here))))) in
+      sound-both h.before (flat_map births_at pre) (births_at r) (flat_map births_at rs) (rw here at
       (sound-own h.before k lt [] (own_births k) (flat_map births_at pre) (rw here earlier)
-      (own-sound k lt)))
-      (rw (flat_map-append births_at pre (r ∷ []), append-nil) at (sound-from rs (pre ++ r ∷ [])
-      (split ∙ sym (append_assoc pre (r ∷ []) rs))))
+      (own-sound k lt))) (rw (flat_map-append births_at pre (r ∷ []), append-nil) at (sound-from rs
+      (pre ++ r ∷ []) (split ∙ sym (append_assoc pre (r ∷ []) rs))))
 
   -- the births of all reserves, one after another
   pub all-sound : AreSoundAfter h.before [] (all_births g nodes)

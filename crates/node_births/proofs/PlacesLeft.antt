@@ -1,14 +1,10 @@
 -- The ports of each born node are those of the wires that end at it in the grown graph.
-use Rattle.node_births.proofs.Imports.{Birth, BoxPicture, HasEdge, Input, IsBorn, List, Output, Port, Reserve, Wire, [], ap, append-nil, arith, born_wires, both_ways, cases_Bool, cases_lt, edge_of, flat_map, flat_map-append, get_or, get_or-append-add, get_or-append_seam, get_or-flat_map, get_or-range_with_len, get_or_append_left, grown_wires, inl, inr, is_own_port, is_place, is_some, length, length-append, length-flat_map-take, length-range_with_len, no_reserve, no_wire, port_edge, range_with_len, refl, subst, suc, sym, take, wire_at, zero, ℕ, ⊎_elim, ◌++◌, ◌+◌, ◌<◌, ◌∙◌, ◌∷◌, ◌≡◌, ◌≤◌}
+use Rattle.node_births.proofs.Imports.{AreNodesLeft, Birth, BoxPicture, GraphBefore, HasEdge, HasNewWire, HasPortPlaces, Input, IsBorn, List, NodeLeft, Output, Port, Reserve, Wire, [], all_births, ap, append-nil, arith, born_edges, born_wires, both_ways, cases_Bool, cases_lt, edge_of, flat_map, flat_map-append, get_or, get_or-append-add, get_or-append_seam, get_or-flat_map, get_or-range_with_len, get_or_append_left, inl, inr, is_own_port, is_place, is_some, length, length-append, length-flat_map-take, length-range_with_len, no_reserve, no_wire, port_edge, range_with_len, refl, reserve_at, suc, sym, table_edges, take, wire_at, wires_left, zero, ℕ, ⊎_elim, ◌++◌, ◌+◌, ◌<◌, ◌∙◌, ◌∷◌, ◌≡◌, ◌≤◌}
 use Rattle.node_births.proofs.BirthWires.{HasNone, blank-none, none-ends, ranks-length}
 use Rattle.node_births.proofs.FlawsLeft.{HasWireAt, wire-at}
 use Rattle.node_births.proofs.NodesLeft.{Standing, all-of, born-is, born-still, held-by, graph-is, grower-out, place-is, standing, stands-from, wires-known}
 use Rattle.node_births.proofs.OwnSound.{births_at, own_births, wires-count}
 use Rattle.node_births.proofs.ReserveLaws.{r_at}
-use Rattle.node_births.specs.LeftNodes.{AreNodesLeft, GraphBefore, HasPortPlaces, NodeLeft, all_births, table_edges, wires_left}
-use Rattle.node_births.specs.MorePorts.{HasNewWire}
-use Rattle.node_births.specs.OwnBirths.{born_edges}
-unfoldable use Rattle.node_births.proofs.Imports.{reserve_at}
 
 -- ---- numbers that are chosen one after another
 
@@ -20,23 +16,19 @@ record AreChosen (P : ℕ → ℕ → Type 0) (count : ℕ) : Type 0 where
 choose : (P : ℕ → ℕ → Type 0) (count : ℕ) → ((i : ℕ) → i < count → (e : ℕ) × P i e)
     → AreChosen P count
 choose P zero f = record { numbers = []; len = refl; each = λ i lt. absurd (omega (arith, lt)) }
-choose P (suc count) f =
-    let rest = choose P count (λ i lt. f i (omega (arith, lt))) in
-    let last = f count (omega arith) in
-    let len = rest.len in record {
+choose P (suc count) f = let rest = choose P count (λ i lt. f i (omega (arith, lt))) in
+    let last = f count (omega arith) in record {
       numbers = rest.numbers ++ last.0 ∷ [];
-      len = omega (arith, len, length-append rest.numbers (last.0 ∷ []));
+      len = omega (arith, rest.len, length-append rest.numbers (last.0 ∷ []));
       each = λ i lt. elim (cases_lt i count) [
         | inl less ↦ rw (get_or_append_left rest.numbers (last.0 ∷ []) 0 i (omega (
           arith,
           less,
-          len,
+          rest.len,
         ))) (rest.each i less)
-        | inr le ↦
-            let same : length rest.numbers ≡ i = omega (arith, lt, le, len) in
+        | inr le ↦ let same : length rest.numbers ≡ i = omega (arith, lt, le, rest.len) in
             let here : count ≡ i = omega (arith, lt, le) in
-            subst (λ x. P i (get_or (rest.numbers ++ last.0 ∷ []) x 0)) same
-            (rw (get_or-append_seam rest.numbers last.0 [] 0) (subst (λ x. P x last.0) here last.1))
+            grind (arith, get_or-append_seam, rest.numbers, last.0, last.1)
       ];
     }
 
@@ -71,12 +63,11 @@ module _ (f : Reserve → List Birth) where
   begins-at rs k lt = record {
     in_range = rw (wires-by rs) (length-flat_map-take wires_by rs k no_reserve lt);
     wire = λ i li. rw (wires-by rs) (get_or-flat_map wires_by rs k i no_reserve no_wire lt li);
-    edge = λ i li.
-        let own = wires-count (f (get_or rs k no_reserve)) in
-        let less : i < born_edges (f (get_or rs k no_reserve)) = omega (arith, li, own) in
-        rw (sym (as-long (take k rs))) (get_or-flat_map edges_by rs k i no_reserve 0 lt
-        (rw length-range_with_len less)
-        ∙ get_or-range_with_len _ (born_edges (f (get_or rs k no_reserve))) i 0 less);
+    edge = λ i li. let less : i < born_edges (f (get_or rs k no_reserve)) =
+        omega (arith, li, wires-count (f (get_or rs k no_reserve))) in
+        rw (sym (as-long (take k rs))) (get_or-flat_map edges_by rs k i no_reserve 0 lt (rw
+        length-range_with_len less) ∙ get_or-range_with_len _ (born_edges (f (get_or rs k
+        no_reserve))) i 0 less);
   }
 
 module _ {g : GraphBefore} {nodes : ℕ → NodeLeft} {after : List BoxPicture}
@@ -86,28 +77,22 @@ module _ {g : GraphBefore} {nodes : ℕ → NodeLeft} {after : List BoxPicture}
   no-edge wires m e (Output o) none x = (none-ends wires m none e x.in_range).0 x.at_port.0
 
   end-below : (e n : ℕ) (p : Port) → HasEdge (wires_left g nodes) n p e → n < length g.boxes
-  end-below e n (Input i) x =
-      let lt = ((graph-is h).so_far.edges e x.in_range).to_in_range in
-      let len = ranks-length g.ranks (all_births g nodes) in
-      let at = x.at_port.0 in let same = h.before.one_each in omega (arith, lt, len, at, same)
-  end-below e n (Output o) x =
-      let lt = ((graph-is h).so_far.edges e x.in_range).from_in_range in
-      let len = ranks-length g.ranks (all_births g nodes) in
-      let at = x.at_port.0 in let same = h.before.one_each in omega (arith, lt, len, at, same)
+  end-below e n (Input i) x = let lt = ((graph-is h).so_far.edges e x.in_range).to_in_range in
+      grind (arith, ranks-length, lt, g.ranks, x.at_port.0, h.before.one_each)
+  end-below e n (Output o) x = let lt = ((graph-is h).so_far.edges e x.in_range).from_in_range in
+      grind (arith, ranks-length, lt, g.ranks, x.at_port.0, h.before.one_each)
 
   -- each end of a wire is a born node
   pub ends-born : (e n : ℕ) (p : Port) → HasEdge (wires_left g nodes) n p e → IsBorn (nodes n).box
-  ends-born e n p x =
-      let lb = end-below e n p x in
-      elim (standing h n) [
-        | Standing.growing k lt is ↦ born-still h n lb (grower-out h n k lt is)
-        | Standing.alone out ↦ born-still h n lb (λ k lt. (out k lt).1)
-        | Standing.held k lt here ↦ elim (cases_Bool (is_place (all_births g nodes) n)) [
-          | inl on ↦ born-is h n k lt here ∙ sym (place-is h n k lt here) ∙ on
-          | inr off ↦ absurd (no-edge (wires_left g nodes) n e p (blank-none h.before n k lt here
-              (all_births g nodes) (all-of h) off) x)
-        ]
-      ]
+  ends-born e n p x = let lb = end-below e n p x in elim (standing h n) [
+    | Standing.growing k lt is ↦ born-still h n lb (grower-out h n k lt is)
+    | Standing.alone out ↦ born-still h n lb (λ k lt. (out k lt).1)
+    | Standing.held k lt here ↦ elim (cases_Bool (is_place (all_births g nodes) n)) [
+      | inl on ↦ born-is h n k lt here ∙ sym (place-is h n k lt here) ∙ on
+      | inr off ↦ absurd (no-edge (wires_left g nodes) n e p (blank-none h.before n k lt here
+          (all_births g nodes) (all-of h) off) x)
+    ]
+  ]
 
   -- ---- the place of a port's wire
 
@@ -128,45 +113,38 @@ module _ {g : GraphBefore} {nodes : ℕ → NodeLeft} {after : List BoxPicture}
     -- a wire of the graph
     of-graph : HasNewWire 0 g.wires (nodes n).ports p → (e : ℕ) × HasPlaceAt n p e
     unfolding wire_at
-    of-graph x =
-        let lt = x.has_edge.in_range in
-        let len = length-append g.wires new in
-        let as_long = length-range_with_len 0 (length g.wires) in (
-          x.place,
-          record {
-            wire = wire-at 0 g.wires (g.wires ++ new) n (nodes n).ports p number x x.place
-                (omega (arith, lt, len)) (get_or_append_left g.wires new no_wire x.place lt);
-            edge_is = x.edge_is ∙ sym (get_or_append_left range edges 0 x.place (omega (
-              arith,
-              lt,
-              as_long,
-            )) ∙ get_or-range_with_len 0 (length g.wires) x.place 0 lt);
-          },
-        )
+    of-graph x = let lt = x.has_edge.in_range in (
+      x.place,
+      record {
+        wire = wire-at _ _ _ _ _ _ number x _ (omega (arith, lt, length-append g.wires new))
+            (get_or_append_left g.wires new no_wire x.place lt);
+        edge_is = x.edge_is ∙ sym (get_or_append_left range edges 0 x.place (omega (
+          arith,
+          lt,
+          length-range_with_len 0 (length g.wires),
+        )) ∙ get_or-range_with_len 0 (length g.wires) x.place 0 lt);
+      },
+    )
 
     -- a wire of the first births of a reserve
     of-births : (k : ℕ) → k < length g.reserves → (known later : List Birth) → own_births h k ≡
         known ++ later → HasNewWire (r_at h.before k).first_edge (flat_map born_wires known) (nodes
         n).ports p → (e : ℕ) × HasPlaceAt n p e
     unfolding wire_at
-    of-births k lk known later split x =
-        let b = begins-at (births_at h) g.reserves k lk in
+    of-births k lk known later split x = let b = begins-at (births_at h) g.reserves k lk in
         let o : ℕ = length (flat_map (wires_by (births_at h)) (take k g.reserves)) + x.place in
         let first : List Wire = flat_map born_wires known in
         let rest : List Wire = flat_map born_wires later in
-        let own : flat_map born_wires (own_births h k) ≡ first ++ rest =
-        ap (flat_map born_wires) split ∙ flat_map-append born_wires known later in
-        let lt = x.has_edge.in_range in
+        let own : flat_map born_wires (own_births h k) ≡ first ++ rest = ap (flat_map born_wires)
+        split ∙ flat_map-append born_wires known later in
         let less : x.place < length (flat_map born_wires (own_births h k)) =
-        (let len = length-append first rest in omega (arith, lt, len, ap length own)) in
-        let room = b.in_range in
-        let len = length-append g.wires new in (
+        (omega (arith, x.has_edge.in_range, length-append first rest, ap length own)) in (
           length g.wires + o,
           record {
-            wire = wire-at _ first (g.wires ++ new) n (nodes n).ports p number x (length g.wires +
-                o) (omega (arith, len, room, less)) (get_or-append-add g.wires new o no_wire ∙
-                b.wire x.place less ∙ ap (λ l. get_or l x.place no_wire) own ∙ get_or_append_left
-                first rest no_wire x.place lt);
+            wire = wire-at _ _ _ _ _ _ number x _
+                (omega (arith, length-append g.wires new, b.in_range, less)) (get_or-append-add
+                g.wires new o no_wire ∙ b.wire x.place less ∙ ap (λ l. get_or l x.place no_wire) own
+                ∙ get_or_append_left first rest no_wire x.place x.has_edge.in_range);
             edge_is = x.edge_is ∙ sym (b.edge x.place less) ∙ sym (get_or-append-add range edges o
                 0) ∙ ap (λ l. get_or (range ++ edges) (l + o) 0) (length-range_with_len 0 (length
                 g.wires));
@@ -182,34 +160,21 @@ module _ {g : GraphBefore} {nodes : ℕ → NodeLeft} {after : List BoxPicture}
     | Standing.held k lt here ↦ let x = held-by h n k lt here in
         ⊎_elim (of-graph n p x.stands.number) (of-births n p x.stands.number k lt (nodes n).births
         x.first.later x.first.all) (x.stands.wired.each p own)
-    | Standing.alone out ↦ let x = (h.each n lb).alone out in
-        ⊎_elim (of-graph n p x.stands.number) (λ y.
-        let none = ap (λ l. length (grown_wires [] l)) x.none in
-        let lt = y.has_edge.in_range in absurd (omega (arith, none, lt)))
-        (x.stands.wired.each p own)
+    | Standing.alone out ↦ grind (arith, of-graph, h.each)
   ]
 
   born-places : (n : ℕ) → n < length g.boxes → IsBorn (nodes n).box → HasPortPlaces g nodes n
-  born-places n lb born =
-      let s = (stands-from h n lb).1 in
-      let counts = wires-known h n lb in
-      let ins = choose (λ i e. HasPlaceAt n (Input i) e) (length (nodes n).ports.inputs)
-      (λ i lt. place-at n lb (Input i) lt) in
-      let outs = choose (λ o e. HasPlaceAt n (Output o) e) (length (nodes n).ports.outputs)
-      (λ o lt. place-at n lb (Output o) lt) in
+  born-places n lb born = let s = (stands-from h n lb).1 in let counts = wires-known h n lb in
+      let ins = choose (λ i e. HasPlaceAt n (Input i) e) (length (nodes n).ports.inputs) (λ i lt.
+      place-at n lb (Input i) lt) in
+      let outs = choose (λ o e. HasPlaceAt n (Output o) e) (length (nodes n).ports.outputs) (λ o lt.
+      place-at n lb (Output o) lt) in
       let at : (p : Port) → is_own_port (nodes n).ports p → HasPlaceAt n p (port_edge ins.numbers
       outs.numbers p) = place-of n ins.numbers outs.numbers ins.each outs.each in record {
         inputs = ins.numbers;
         outputs = outs.numbers;
         are = λ _ _. record {
-          numbers = record {
-            ins = ins.len ∙ s.ins born ∙ sym counts.0;
-            outs = outs.len ∙ s.outs born ∙ sym counts.1;
-            at = λ p own. (at p (rw (
-              sym (s.ins born ∙ sym counts.0),
-              sym (s.outs born ∙ sym counts.1),
-            ) at own)).wire.has_edge;
-          };
+          numbers = grind (arith, ins.len, s.ins, counts.0, outs.len, s.outs, counts.1);
           ins = sym ins.len;
           outs = sym outs.len;
           edge_is = λ p own. (at p own).edge_is;
@@ -229,11 +194,7 @@ module _ {g : GraphBefore} {nodes : ℕ → NodeLeft} {after : List BoxPicture}
   places-left n = elim (cases_lt n (length g.boxes)) [
     | inl lb ↦ elim (cases_Bool (is_some (nodes n).box.spec)) [
       | inl born ↦ born-places n lb born
-      | inr off ↦ record {
-        inputs = [];
-        outputs = [];
-        are = λ _ born. absurd (both_ways _ off born);
-      }
+      | inr off ↦ grind (arith, both_ways, off)
     ]
     | inr le ↦ record { inputs = []; outputs = []; are = λ lt _. absurd (omega (arith, le, lt)) }
   ]

@@ -1,8 +1,6 @@
 -- No two reserves share a node, no node that grows is in one, and the box of a node is blank where
 -- a reserve holds it.
-use Rattle.node_births.proofs.Imports.{All-from_get_or, AreReserves, IsBorn, List, None, Reserve, Wire, [], and_parts, arith, both_ways, cases_lt, count_by-none, eq-eqb, false, false_from_ne_true, holds_node, input_count, length, list_any, list_any_at, list_any_none, ne_eqb, no_reserve, no_wire, output_count, refl, reserve_of, subst, suc, sym, true, wire_at, zero, ℕ, ◌+◌, ◌<◌, ◌==◌, ◌∷◌, ◌≡◌, ◌≢◌, ◌≤◌}
-use Rattle.node_births.specs.LeftNodes.{GraphBefore, IsGraphBefore}
-unfoldable use Rattle.node_births.proofs.Imports.{box_at, reserve_at}
+use Rattle.node_births.proofs.Imports.{All-from_get_or, AreReserves, GraphBefore, IsBorn, IsGraphBefore, List, None, Reserve, Wire, [], and_parts, arith, both_ways, box_at, cases_lt, count_by-none, eq-eqb, false, false_from_ne_true, holds_node, input_count, length, list_any, list_any_at, list_any_none, ne_eqb, no_reserve, no_wire, output_count, refl, reserve_at, reserve_of, suc, true, wire_at, zero, ℕ, ◌+◌, ◌<◌, ◌==◌, ◌∷◌, ◌≡◌, ◌≢◌, ◌≤◌}
 
 pub first-of : (rs : List Reserve) (k : ℕ) → k < length rs
     → ((j : ℕ) → j < k → (reserve_at rs j).node ≢ (reserve_at rs k).node)
@@ -34,12 +32,10 @@ pub no-wires : {nodes base : ℕ} {wires : List Wire} {rs : List Reserve}
     → (input_count wires m ≡ 0) × (output_count wires m ≡ 0)
 unfolding wire_at
 no-wires {wires} {rs} fit m k lt h = (
-  count_by-none no_wire (λ w. w.to == m) wires (λ e le. ne_eqb _ m (λ is.
-      both_ways _ (not-held rs _ k lt (fit.to_added e le).unreserved)
-      (subst (λ x. holds_node x (reserve_at rs k) ≡ true) (sym is) h))),
-  count_by-none no_wire (λ w. w.from == m) wires (λ e le. ne_eqb _ m (λ is.
-      both_ways _ (not-held rs _ k lt (fit.from_added e le).unreserved)
-      (subst (λ x. holds_node x (reserve_at rs k) ≡ true) (sym is) h))),
+  count_by-none no_wire (λ w. w.to == m) wires (λ e le. ne_eqb _ m (λ is. both_ways _ (not-held rs _
+      k lt (fit.to_added e le).unreserved) (rw is h))),
+  count_by-none no_wire (λ w. w.from == m) wires (λ e le. ne_eqb _ m (λ is. both_ways _ (not-held rs
+      _ k lt (fit.from_added e le).unreserved) (rw is h))),
 )
 
 module _ {g : GraphBefore} (b : IsGraphBefore g) where

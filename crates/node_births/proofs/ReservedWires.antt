@@ -1,21 +1,5 @@
 -- The wires of a growth without a flaw may be set at the next edges of the reserve of its node.
-use Rattle.node_births.proofs.Imports.{AreReservedWires, List, Sizes, and_from, ap, arith, both_ways, eq-eqb, false, length, ne_eqb, not, or_left, or_right, refl, subst, suc, sym, true, wire_ok, zero, ℕ, ◌&&◌, ◌+◌, ◌<◌, ◌∷◌, ◌≡◌, ◌≢◌, ◌≤◌}
-use Rattle.core_laws.specs.Views.{edge_in, of_reserve}
-use Rattle.exec_laws.proofs.GrownGraphs.{not-false}
-use Rattle.exec_laws.specs.Growths.{end_node, end_rank, has_large_port, has_wrong_end, is_named, is_out_of_order, new_wire, new_wires}
-use Rattle.port_word.specs.declared.flags.Reserve.{Reserve}
-use Rattle.port_word.specs.declared.flags.Wire.{Wire}
-use Rattle.proc_api.specs.Reserves.{holds_node, no_reserve}
-use Rattle.proc_api.specs.declared.growth.Edge.{Edge}
-use Rattle.proc_api.specs.declared.growth.Who.{Who}
-use Rattle.proc_api.specs.declared.growth.Who.TheVariants.{Me, New}
-use Rattle.std.proofs.Common.{[], get_or, ltb-true, nat_le, nat_lt}
-use Rattle.std.proofs.lemmas.Bool.{and_parts, le-leb, lt-ltb, or_parts}
-use Rattle.std.proofs.lemmas.List.{length-map}
-use Rattle.std.proofs.lemmas.List.Folds.{list_any_at}
-use Rattle.std.specs.List.{list_any}
-unfoldable use Rattle.proc_api.specs.Names.{wire_at}
-unfoldable use Rattle.proc_api.specs.Reserves.{reserve_at}
+use Rattle.node_births.proofs.Imports.{AreReservedWires, Edge, List, Me, New, Reserve, Sizes, Who, Wire, [], and_from, and_parts, ap, arith, both_ways, edge_in, end_node, end_rank, eq-eqb, false, get_or, has_large_port, has_wrong_end, holds_node, is_named, is_out_of_order, le-leb, length, length-map, list_any, list_any_at, lt-ltb, ltb-true, nat_lt, ne_eqb, new_wire, new_wires, no_reserve, not, not-false, of_reserve, or_left, or_parts, or_right, refl, reserve_at, subst, suc, true, wire_at, wire_ok, zero, ℕ, ◌&&◌, ◌+◌, ◌<◌, ◌∷◌, ◌≡◌, ◌≢◌, ◌≤◌}
 
 -- the edges of a growth of so many new nodes with these ranks, by a node of this rank: none of the
 -- flaws that need no graph is theirs
@@ -45,18 +29,13 @@ module _ (r : Reserve) (nodes count rank : ℕ) (ranks places : List ℕ)
 
   end-inside : (w : Who) → is_named count w ≡ true → end_node r.node places w < nodes
   end-inside Me named = h.grows
-  end-inside (New k) named =
-      let p : ℕ = get_or places k 0 in
-      let below = ltb-true p (r.first_node + r.nodes) (and_parts (nat_le r.first_node p)
-      (nat_lt p (r.first_node + r.nodes)) (h.held k (at k named))).1 in
-      let within = h.within in omega (arith, below, within)
+  end-inside (New k) named = grind (arith, ltb-true, and_parts, r.first_node, r.nodes, h.held)
 
   same-rank : (v w : Who) → is_named count v ≡ true → is_named count w ≡ true
       → end_node r.node places v ≡ end_node r.node places w
       → end_rank rank ranks v ≡ end_rank rank ranks w
   same-rank Me Me a b e = refl
-  same-rank Me (New k) a b e = absurd (both_ways _ h.outside
-      (subst (λ m. holds_node m r ≡ true) (sym e) (h.held k (at k b))))
+  same-rank Me (New k) a b e = absurd (both_ways _ h.outside (rw e (h.held k (at k b))))
   same-rank (New j) Me a b e = absurd (both_ways _ h.outside
       (subst (λ m. holds_node m r ≡ true) e (h.held j (at j a))))
   same-rank (New j) (New k) a b e = ap (λ i. get_or ranks i 0) (h.once j k (at j a) (at k b) e)
@@ -67,14 +46,12 @@ module _ (r : Reserve) (nodes count rank : ℕ) (ranks places : List ℕ)
 
   may-set : (e : Edge) → has_wrong_end count e ≡ false → is_out_of_order rank ranks e ≡ false
       → has_large_port e ≡ false → MayBeSet (new_wire r.node places e)
-  may-set e wrong order large =
-      let named = and_parts _ _ (not-false _ (or_parts _ _ wrong).0) in
-      let less = ltb-true (end_rank rank ranks e.from.who) (end_rank rank ranks e.to.who)
-      (not-false _ order) in
+  may-set e wrong order large = let named = and_parts _ _ (not-false _ (or_parts _ _ wrong).0) in
+      let less = ltb-true (end_rank rank ranks e.from.who) (end_rank rank ranks e.to.who) (not-false
+      _ order) in
       let small = and_parts (nat_lt e.to.port 32) (nat_lt e.from.port 16) (not-false _ large) in
       let other : end_node r.node places e.to.who ≢ end_node r.node places e.from.who =
-      (λ same. let rank = same-rank e.to.who e.from.who named.1 named.0 same in
-      omega (arith, less, rank)) in (
+      grind (arith, same-rank, e.to.who, e.from.who, named.1, named.0) in (
         and_from _ _ (ap not (ne_eqb _ _ other)) (and_from _ _
             (and_from _ _ (lt-ltb _ _ (end-inside e.from.who named.0))
             (lt-ltb _ _ (end-inside e.to.who named.1))) (and_from _ _ small.1 small.0)),
@@ -101,14 +78,12 @@ module _ (r : Reserve) (nodes count rank : ℕ) (ranks places : List ℕ)
       → first + length edges ≤ r.first_edge + r.edges
       → AreReservedWires z first (new_wires r.node places edges)
   unfolding reserve_at
-  reserved-wires z i many lt is first edges f low room =
-      let len = length-map edges (new_wire r.node places) in record {
-        sound = λ k less. rw many (all-set edges f k less).0;
-        reserved = λ k less. list_any_at (λ x. edge_in (first + k) x
-            && (of_reserve (wire_at (new_wires r.node places edges) k).from x
-            && of_reserve (wire_at (new_wires r.node places edges) k).to x)) z.reserves i
-            no_reserve lt (rw is (and_from _ _ (and_from _ _
-            (le-leb r.first_edge (first + k) (omega (arith, low)))
-            (lt-ltb (first + k) (r.first_edge + r.edges) (omega (arith, less, len, room))))
-            (all-set edges f k less).1));
-      }
+  reserved-wires z i many lt is first edges f low room = record {
+    sound = λ k less. rw many (all-set edges f k less).0;
+    reserved = λ k less. list_any_at (λ x. edge_in (first + k) x && (of_reserve (wire_at
+        (new_wires r.node places edges) k).from x && of_reserve (wire_at (new_wires r.node
+        places edges) k).to x)) z.reserves i no_reserve lt (rw is (and_from _ _ (and_from _ _
+        (le-leb r.first_edge (first + k) (omega (arith, low))) (lt-ltb (first + k) (r.first_edge
+        + r.edges) (omega (arith, less, length-map edges (new_wire r.node places), room))))
+        (all-set edges f k less).1));
+  }

@@ -1,12 +1,8 @@
 -- Births without a flaw, in order: each of a node with a reserve, whose blanks its new nodes took.
-use Rattle.node_births.proofs.Imports.{AllByRecursion, AreOnce, Birth, Blank, Bool, BoxPicture, GrowthFlaw, GrowthForm, Kind, Left, List, None, Option, Reserve, Some, Wire, [], all_kinds, all_places, ap, append-nil, append_assoc, arith, births_of, blanks_of, both_ways, cases_Bool, cases_eq, cond, count_by-cons, eq-eqb, false, false_from_ne_true, filter, filter-append, find, first_flaw, flat_map-append, flaw_over, form_kind, has_gap, has_large_port, has_wrong_end, holds_node, inl, inr, is_out_of_order, is_place, is_port_taken, is_some, lacks_blank, length, length-map, list_any, list_any-append, ltb-false, map, nat_le, nat_lt, ne_eqb, new_wires, not, option_map, or_right, own_wires, places-length, places_for, refl, subst, suc, sym, true, zero, ℕ, ◌&&◌, ◌++◌, ◌+◌, ◌<◌, ◌==◌, ◌||◌, ◌∙◌, ◌∷◌, ◌≡◌, ◌≤◌}
+use Rattle.node_births.proofs.Imports.{AllByRecursion, AreOnce, AreSoundBirths, Birth, Blank, Bool, BoxPicture, GraphBefore, GrowthFlaw, GrowthForm, IsGraphBefore, IsSoundBirth, Kind, Left, List, None, Option, Reserve, ReserveForm, Some, Wire, [], all_kinds, all_places, ap, append-nil, append_assoc, arith, births_of, blanks_of, both_ways, box_at, cases_Bool, cases_eq, cond, count_by-cons, eq-eqb, false, false_from_ne_true, filter, filter-append, find, first_flaw, flat_map-append, flaw_over, form_kind, has_gap, has_large_port, has_wrong_end, holds_node, inl, inr, is_out_of_order, is_place, is_port_taken, is_some, lacks_blank, left_without, length, length-map, list_any, list_any-append, ltb-false, map, nat_le, nat_lt, ne_eqb, new_wires, not, option_map, own_wires, places-length, places_for, refl, reserve_before, subst, suc, sym, true, zero, ℕ, ◌&&◌, ◌++◌, ◌+◌, ◌<◌, ◌==◌, ◌||◌, ◌∙◌, ◌∷◌, ◌≡◌, ◌≤◌}
 use Rattle.exec_laws.specs.declared.growth.GrowthFlaw.TheVariants as flaw
 use Rattle.node_births.proofs.BlankPlaces.{blank-places, blanks-count, counted-once, is-counted, node_count, place_count}
 use Rattle.node_births.proofs.ReserveLaws.{held-once, r_at, reserve-of}
-use Rattle.node_births.specs.Left.{ReserveForm}
-use Rattle.node_births.specs.LeftNodes.{GraphBefore, IsGraphBefore, reserve_before}
-use Rattle.node_births.specs.OwnBirths.{AreSoundBirths, IsSoundBirth, left_without}
-unfoldable use Rattle.node_births.proofs.Imports.{box_at}
 
 -- ---- what a growth without a flaw is
 
@@ -34,21 +30,15 @@ pub record NoFlaw (rank : ℕ) (wires : List Wire) (left : Left) (n : ℕ) (g : 
 pub no-flaw : (rank past : ℕ) (wires : List Wire) (left : Left) (n : ℕ) (g : GrowthForm)
     → flaw_over rank past wires left n g ≡ None
     → NoFlaw rank wires left n g (places_for (map form_kind g.specs) left.blanks past)
-no-flaw rank past wires left n g h =
-    let all = none-first _ _ h in
-    let rest = none-first _ _ all.1 in
-    let b = unless-some _ _ _ (unless-some _ _ _ all.0).1 in
-    let c = unless-some _ _ _ b.1 in
-    let d = unless-some _ _ _ c.1 in
-    let e = unless-some _ _ _ d.1 in
-    let f = unless-some _ _ _ rest.0 in
-    let i = unless-some _ _ _ f.1 in record {
+no-flaw rank past wires left n g h = let rest = none-first _ _ (none-first _ _ h).1 in
+    let b = unless-some _ _ _ (unless-some _ _ _ (none-first _ _ h).0).1 in
+    let d = unless-some _ _ _ (unless-some _ _ _ b.1).1 in record {
       few_edges = ltb-false left.edges (length g.edges) b.0;
-      ends = c.0;
+      ends = (unless-some _ _ _ b.1).0;
       ranked = d.0;
-      small = e.0;
-      free = f.0;
-      gapless = i.0;
+      small = (unless-some _ _ _ d.1).0;
+      free = (unless-some _ _ _ rest.0).0;
+      gapless = (unless-some _ _ _ (unless-some _ _ _ rest.0).1).0;
       blanks = none-found (find (lacks_blank (map form_kind g.specs) left.blanks) all_kinds) rest.1;
     }
   where
@@ -64,12 +54,9 @@ pub blanks-left : (births : List Birth) (blanks : List Blank) (m : ℕ) → (nod
     Blank). not (is_place births b.node)) blanks) m ≤ node_count blanks m) × (is_place births m ≡
     true → node_count (filter (λ (b : Blank). not (is_place births b.node)) blanks) m ≡ 0)
 blanks-left births [] m = grind arith
-blanks-left births (b ∷ blanks) m =
-    let h = blanks-left births blanks m in
-    let test : Blank → Bool = λ (c : Blank). c.node == m in
-    let rest = filter (λ (c : Blank). not (is_place births c.node)) blanks in
-    let all = count_by-cons test b blanks in
-    let more = count_by-cons test b rest in
+blanks-left births (b ∷ blanks) m = let h = blanks-left births blanks m in
+    let test : Blank → Bool = λ (c : Blank). c.node == m in let all = count_by-cons test b blanks in
+    let more = count_by-cons test b (filter (λ (c : Blank). not (is_place births c.node)) blanks) in
     elim (cases_Bool (is_place births b.node)) [
       | inl on ↦ rw on (omega (arith, h.0, all), h.1)
       | inr off ↦ rw off (
@@ -87,17 +74,7 @@ pub left-blanks : (boxes : List BoxPicture) (births : List Birth) (first count :
     ≡ blanks_of boxes births first count
 left-blanks boxes births first zero = refl
 left-blanks boxes births first (suc count) =
-    let n : ℕ = first + count in
-    let b : Blank = record { node = n; kind = (box_at boxes n).kind } in
-    filter-append (λ (c : Blank). not (is_place births c.node)) (blanks_of boxes [] first count)
-    (cond (is_some (box_at boxes n).spec) [] (b ∷ []))
-    ∙ rw (left-blanks boxes births first count)
-    (ap (λ l. blanks_of boxes births first count ++ l) (one b (is_some (box_at boxes n).spec)))
-  where
-    one : (b : Blank) (t : Bool) → filter (λ (c : Blank). not (is_place births c.node)) (cond t []
-        (b ∷ [])) ≡ cond (is_place births b.node || t) [] (b ∷ [])
-    one b true = rw (or_right (is_place births b.node) true refl) refl
-    one b false = grind (arith, cases_Bool)
+    grind (arith, filter-append, left-blanks boxes births first count)
 
 -- blanks are the same where the same nodes are unborn, of the same kinds
 pub same-blanks : (a b : List BoxPicture) (x y : List Birth) (first count : ℕ) → ((i : ℕ) → i <
@@ -105,8 +82,7 @@ pub same-blanks : (a b : List BoxPicture) (x y : List Birth) (first count : ℕ)
     i) || is_some (box_at b (first + i)).spec)) × ((box_at a (first + i)).kind ≡ (box_at b (first +
     i)).kind)) → blanks_of a x first count ≡ blanks_of b y first count
 same-blanks a b x y first zero h = refl
-same-blanks a b x y first (suc count) h =
-    let one = h count (omega arith) in
+same-blanks a b x y first (suc count) h = let one = h count (omega arith) in
     rw (same-blanks a b x y first count (λ i lt. h i (omega (arith, lt))), one.0, one.1) refl
 
 -- ---- places
@@ -140,16 +116,14 @@ module _ {wires : List Wire} {n : ℕ} {r : ReserveForm} {earlier : List Birth} 
 
   pub flawless : NoFlaw r.rank (own_wires n s.sources s.targets) (left_without r.left earlier) n
       b.growth b.places
-  flawless = rw s.places (no-flaw _ r.nodes _ (left_without r.left earlier) n b.growth s.none)
+  flawless = rw s.places (no-flaw _ _ _ _ _ _ s.none)
 
   pub as-many : length b.places ≡ length b.growth.specs
-  as-many = ap length s.places ∙ places-length (map form_kind b.growth.specs) blanks_before r.nodes
-      ∙ length-map b.growth.specs form_kind
+  as-many = ap length s.places ∙ places-length _ _ _ ∙ length-map b.growth.specs form_kind
 
   -- no edge has a wrong end
   pub ends-right : list_any (has_wrong_end (length b.places)) b.growth.edges ≡ false
-  ends-right = subst (λ c. list_any (has_wrong_end c) b.growth.edges ≡ false) (sym as-many)
-      flawless.ends
+  ends-right = rw as-many flawless.ends
 
   -- each place is the node of a blank, and no two are that of one
   pub places-left : (m : ℕ) → place_count b.places m ≤ node_count blanks_before m
@@ -158,8 +132,7 @@ module _ {wires : List Wire} {n : ℕ} {r : ReserveForm} {earlier : List Birth} 
 
   pub place-left : (m : ℕ) → list_any (λ (k : ℕ). k == m) b.places ≡ true
       → 1 ≤ node_count blanks_before m
-  place-left m there = let one = is-counted (λ (k : ℕ). k == m) b.places there in
-      let some = places-left m in omega (arith, one, some)
+  place-left m there = omega (arith, is-counted (λ (k : ℕ). k == m) b.places there, places-left m)
 
   -- no earlier birth took a place
   pub free-place : (m : ℕ) → list_any (λ (k : ℕ). k == m) b.places ≡ true
@@ -188,8 +161,7 @@ module _ {g : GraphBefore} (before : IsGraphBefore g) where
   sound-both e [] ys h k = rw append-nil at k
   sound-both e (x ∷ xs) ys h k = (
     h.0,
-    sound-both (e ++ x ∷ []) xs ys h.1
-        (subst (λ l. AreSoundAfter l ys) (sym (append_assoc e (x ∷ []) xs)) k),
+    sound-both (e ++ x ∷ []) xs ys h.1 (rw ((append_assoc e (x ∷ []) xs)) k),
   )
 
   -- those of one reserve, among others
@@ -197,8 +169,7 @@ module _ {g : GraphBefore} (before : IsGraphBefore g) where
       before k).node e ≡ own → AreSoundBirths g.wires (r_at before k).node (reserve_before g (r_at
       before k).node) own births → AreSoundAfter e births
   sound-own k lt own [] e same h = tt
-  sound-own k lt own (b ∷ births) e same h =
-      let n : ℕ = (r_at before k).node in
+  sound-own k lt own (b ∷ births) e same h = let n : ℕ = (r_at before k).node in
       let here : births_of n (b ∷ []) ≡ b ∷ [] = rw (eq-eqb b.expander n h.0.expander) refl in (
         record { number = k; in_range = lt; sound = rw same h.0 },
         sound-own k lt (own ++ b ∷ []) births (e ++ b ∷ [])
@@ -231,30 +202,21 @@ module _ {g : GraphBefore} (before : IsGraphBefore g) where
 
     pub places-once : AreOnce b.places
     places-once = counted-once b.places (λ m. let x = places-left h.sound m in
-        let y = counts-before m in
-        let z = (blanks-count g.boxes [] r.first_node r.nodes m).once in omega (arith, x, y, z))
+        grind (arith, counts-before m, blanks-count g.boxes [] r.first_node r.nodes m, g.boxes))
 
     -- a place is held by the reserve, and no birth of this took it before
     pub places-held : (m : ℕ) → list_any (λ (k : ℕ). k == m) b.places ≡ true → holds_node m r ≡ true
-    places-held m there =
-        let x = place-left h.sound m there in let y = counts-before m in
+    places-held m there = let x = place-left h.sound m there in let y = counts-before m in
         let count = blanks-count g.boxes [] r.first_node r.nodes m in
-        let w = count.within (omega (arith, x, y)) in
-        holds-within r.first_node r.nodes m w.0 w.1
+        grind (arith, holds-within, count.within, r.first_node, r.nodes)
 
     pub places-free : (m : ℕ) → list_any (λ (k : ℕ). k == m) b.places ≡ true
         → is_place (births_of r.node e) m ≡ false
     places-free = free-place h.sound
 
     pub of-reserve : IsOfReserve b
-    of-reserve = record {
-      number = h.number;
-      in_range = h.in_range;
-      expander = h.sound.expander;
-      as_many = as-many h.sound;
-      ends = (flawless h.sound).ends;
-      held = places-held;
-    }
+    of-reserve =
+        grind (arith, as-many h.sound, places-held, h.number, h.in_range, h.sound.expander, h.sound)
 
   pub are-of-reserves : (e births : List Birth) → AreSoundAfter e births
       → AllByRecursion IsOfReserve births
@@ -266,17 +228,14 @@ module _ {g : GraphBefore} (before : IsGraphBefore g) where
       → (e : List Birth) → AllByRecursion IsOfReserve e
       → is_place (births_of (r_at before k).node e) m ≡ is_place e m
   place-own k lt m here [] h = refl
-  place-own k lt m here (b ∷ e) h =
-      let rest = place-own k lt m here e h.1 in
+  place-own k lt m here (b ∷ e) h = let rest = place-own k lt m here e h.1 in
       elim (cases_eq b.expander (r_at before k).node) [
         | inl same ↦ rw (eq-eqb b.expander (r_at before k).node same) (place-cons b (births_of (r_at
             before k).node e) m ∙ rw rest refl ∙ sym (place-cons b e m))
-        | inr ne ↦
-            let off = false_from_ne_true (list_any (λ (j : ℕ). j == m) b.places) (λ there.
-            ne (h.0.expander ∙ ap (λ j. (r_at before j).node)
-            (held-once before m h.0.number k h.0.in_range lt (h.0.held m there) here))) in
-            rw (ne_eqb b.expander (r_at before k).node ne)
-            (rest ∙ sym (place-cons b e m ∙ rw off refl))
+        | inr ne ↦ rw (ne_eqb b.expander (r_at before k).node ne) (rest ∙ sym (place-cons b e m ∙
+            rw (false_from_ne_true (list_any (λ (j : ℕ). j == m) b.places) (λ there. ne
+            (h.0.expander ∙ ap (λ j. (r_at before j).node) (held-once before m h.0.number k
+            h.0.in_range lt (h.0.held m there) here)))) refl))
       ]
 
   -- a new place is no place before

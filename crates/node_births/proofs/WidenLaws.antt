@@ -1,24 +1,11 @@
 -- A node that grew may be prepared again once it has all its new ports.
-use Rattle.node_births.proofs.Imports.{ArePortsOf, AsksToGrow, BoxHolds, BoxPicture, FollowsKept, Gains, grew-list, ports-before, Grew, GrowthForm, Identity, IsAtWork, IsDue, IsSeatOf, IsTrue, Lists, MarkHolds, NodeCell, NodeMark, NodePorts, NodeSeat, arith, cell_ports, follows-same, follows-wide, length, ports_picture, pulled_by, pushed_by, subst, sym, ℕ, ◌∙◌, ◌≡◌}
-use Rattle.node_births.specs.Widened.{GetsPorts, HasWidened, IsGrowing}
-use Rattle.exec_laws.proofs.Growing.{grown-counts}
-use Rattle.exec_laws.specs.Growths.{has_wrong_end, new_wires}
-use Rattle.exec_laws.specs.Prelude.{input_count, output_count}
-use Rattle.exec_table.specs.Seats.{view}
-use Rattle.node_cells.specs.declared.cell.NodeReserve.{NodeReserve}
-use Rattle.port_word.specs.declared.flags.Wire.{Wire}
-use Rattle.std.proofs.Common.{List, [], ap, false, get_or, true, ◌<◌, ◌≢◌}
-use Rattle.std.specs.List.{list_any}
-use Rattle.node_births.proofs.GainLaws.{gains-both, gains-itself}
-use Rattle.exec_laws.specs.declared.edges.DueCall.TheVariants as call
-use Rattle.exec_laws.specs.declared.edges.NodeStatus.TheVariants as node
+use Rattle.node_births.proofs.Imports.{ArePortsOf, AsksToGrow, AtWork, BoxHolds, BoxPicture, Due, Expand, FollowsKept, Gains, GetsPorts, GrowthForm, HasWidened, Identity, IsAtWork, IsDue, IsGrowing, IsSeatOf, IsTrue, List, Lists, NodeCell, NodeMark, NodePorts, NodeSeat, Over, Wire, [], ap, arith, cell_ports, false, follows-same, follows-wide, get_or, grew-list, grown-counts, has_wrong_end, input_count, length, list_any, new_wires, output_count, ports-before, ports_picture, pulled_by, pushed_by, subst, sym, true, view, ℕ, ◌<◌, ◌∙◌, ◌≡◌, ◌≢◌}
+use Rattle.node_births.proofs.GainLaws.{gains-both}
 
 -- its box was asked by what the graph grows
 pub asked-to-grow : {P : Type 0} (seen : P → BoxPicture) (t : Identity) (c : NodeCell P)
-    → IsAtWork seen t call.Expand c → AsksToGrow (seen c.processor)
-asked-to-grow seen t c h = subst (λ s. MarkHolds s c.mark.last (length c.ports.inputs.items)
-    (length c.ports.outputs.items) (seen c.processor) c.ports.view) h.at_work
-    h.holds.cell.node.mark
+    → IsAtWork seen t Expand c → AsksToGrow (seen c.processor)
+asked-to-grow seen t c h = rw h.at_work at h.holds.cell.node.mark
 
 module _ {P : Type 0} (seen : P → BoxPicture) (t : Identity) (g : GrowthForm) (c d : NodeCell P)
     (w : HasWidened seen t g c d) where
@@ -67,23 +54,19 @@ module _ {P : Type 0} (seen : P → BoxPicture) (t : Identity) (g : GrowthForm) 
         ) tt;
         fits = λ l k. w.growing.grew.fits ∙ here.fits (was l) (before l k);
         keeps = λ l k. w.growing.grew.keeps (was l) _ _ (here.keeps (was l) (before l k));
-        nothing_past = λ i le. here.nothing_past i (let n = w.inputs in omega (arith, le, n));
-        nothing_pushed_past = λ o le. here.nothing_pushed_past o
-            (let n = w.outputs in omega (arith, le, n));
+        nothing_past = λ i le. here.nothing_past i (omega (arith, le, w.inputs));
+        nothing_pushed_past = λ o le. here.nothing_pushed_past o (omega (arith, le, w.outputs));
       }
 
   follows : FollowsKept q d.ports.view
-  follows = follows-same p q d.ports.view w.growing.grew.view
-      (subst (FollowsKept p) (sym w.growing.gains.view) (follows-wide c.ports.view _ _
-      (let a = w.growing.asked.holds.cell.node.ports.ins in let n = w.inputs in
-      omega (arith, a, n))
-      (let a = w.growing.asked.holds.cell.node.ports.outs in let n = w.outputs in
-      omega (arith, a, n)) p
+  follows = follows-same p q d.ports.view w.growing.grew.view (subst (FollowsKept p) (sym
+      w.growing.gains.view) (follows-wide c.ports.view _ _
+      (omega (arith, w.growing.asked.holds.cell.node.ports.ins, w.inputs))
+      (omega (arith, w.growing.asked.holds.cell.node.ports.outs, w.outputs)) p
       (w.growing.asked.holds.cell.node.kept (λ over.
-      let f : node.AtWork call.Expand ≡ node.Over = sym w.growing.asked.at_work ∙ over in
-      absurd (cc)))))
+      let f : AtWork Expand ≡ Over = sym w.growing.asked.at_work ∙ over in absurd (cc)))))
 
-  pub widened-due : (k : NodeMark) → k.state ≡ node.Due → IsDue seen t (record d { mark = k })
+  pub widened-due : (k : NodeMark) → k.state ≡ Due → IsDue seen t (record d { mark = k })
   widened-due k due = record {
     holds = record {
       cell = record {
@@ -92,8 +75,7 @@ module _ {P : Type 0} (seen : P → BoxPicture) (t : Identity) (g : GrowthForm) 
           ports = w.growing.gains.may.holds;
           box = box;
           kept = λ _. follows;
-          mark = subst (λ s. MarkHolds s k.last (length d.ports.inputs.items)
-              (length d.ports.outputs.items) q d.ports.view) (sym due) tt;
+          mark = rw due tt;
         };
       };
       turn = record {
@@ -109,17 +91,6 @@ module _ {P : Type 0} (seen : P → BoxPicture) (t : Identity) (g : GrowthForm) 
 
 -- ---- how it gets them
 
--- as it begins
-pub grows-first : {P : Type 0} (seen : P → BoxPicture) (t : Identity) (g : GrowthForm)
-    (c : NodeCell P) (q : P) → IsAtWork seen t call.Expand c → Grew g (seen c.processor) (seen q)
-    → IsGrowing seen t g c (record c { processor = q })
-grows-first seen t g c q h grew = record {
-  asked = h;
-  grew = grew;
-  seat = h.holds.cell.seat;
-  gains = gains-itself (cell_ports c) (record { holds = h.holds.cell.node.ports; quiet = h.quiet });
-}
-
 -- with more ports
 pub grows-on : {P : Type 0} (seen : P → BoxPicture) (t : Identity) (g : GrowthForm)
     (c old : NodeCell P) (ports : NodePorts) (seat : NodeSeat) → IsGrowing seen t g c old
@@ -129,17 +100,11 @@ grows-on seen t g c old ports seat was at gains = record {
   asked = was.asked;
   grew = was.grew;
   seat = at;
-  gains = gains-both (cell_ports c) (cell_ports old) (ports_picture ports seat)
-      (record { holds = was.asked.holds.cell.node.ports; quiet = was.asked.quiet }) was.gains
-      gains;
+  gains = gains-both _ _ _ (record {
+    holds = was.asked.holds.cell.node.ports;
+    quiet = was.asked.quiet;
+  }) was.gains gains;
 }
-
--- with less of its reserve
-pub grows-less : {P : Type 0} (seen : P → BoxPicture) (t : Identity) (g : GrowthForm)
-    (c old : NodeCell P) (r : NodeReserve) → IsGrowing seen t g c old
-    → IsGrowing seen t g c (record old { reserve = r })
-grows-less seen t g c old r was =
-    record { asked = was.asked; grew = was.grew; seat = was.seat; gains = was.gains }
 
 -- with all its ports of a growth: its outputs, then its inputs
 pub gets-widened : {P : Type 0} (seen : P → BoxPicture) (t : Identity) (g : GrowthForm)
@@ -151,12 +116,10 @@ pub gets-widened : {P : Type 0} (seen : P → BoxPicture) (t : Identity) (g : Gr
     → GetsPorts seen t true first (new_wires (view c.seat).number places g.edges) b d
     → HasWidened seen t g c d
 gets-widened seen t g c a b d first places ports seat growing other ends outs ins =
-    let n : ℕ = (view c.seat).number in
-    let more : List Wire = new_wires n places g.edges in
+    let n : ℕ = (view c.seat).number in let more : List Wire = new_wires n places g.edges in
     let counts = grown-counts n (length g.specs) places [] g.edges other ends in
     let at : (view a.seat).number ≡ n = ap (λ s. (view s).number) seat in
-    let after : (view b.seat).number ≡ n = outs.gains.gains.number ∙ at in
-    record {
+    let after : (view b.seat).number ≡ n = outs.gains.gains.number ∙ at in record {
       growing = ins.grows g c (outs.grows g c growing);
       inputs = let m = ins.gains.more in let o = ap length outs.gains.others in
           let s = ap (λ (x : NodePorts). length x.inputs.items) ports in

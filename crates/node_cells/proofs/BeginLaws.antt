@@ -1,5 +1,5 @@
 -- A node with a token begins: where its word was 0 the token is spent.
-use Rattle.node_cells.proofs.Imports.{Identity, is_over_stage, is_unborn_stage, stage_at, StepAnswer, Bool, BoxPicture, IsSeatOf, MakesStep, MakesUpdated, NodeCell, CellNodeHolds, NodeMark, NodePorts, NodeSeat, NodeView, None, SeatState, ap, arith, cases_Bool, cases_lt, cond, eq-eqb, eqb-true, false, inl, inr, is_set, ne_eqb, node_at, nothing, ports_picture, refl, spent, state-made, state_taken, subst, sym, true, updated, view, ℕ, ◌+◌, ◌-◌, ◌/◌, ◌%◌, ◌^◌, ◌∙◌, ◌≡◌, ◌≢◌, ◌≤◌, end_of_view}
+use Rattle.node_cells.proofs.Imports.{Identity, is_over_stage, is_unborn_stage, stage_at, StepAnswer, Bool, BoxPicture, IsSeatOf, MakesStep, MakesUpdated, NodeCell, CellNodeHolds, NodeMark, NodePorts, NodeSeat, NodeView, None, SeatState, ap, arith, cases_Bool, cases_lt, cond, eq-eqb, eqb-true, false, inl, inr, is_set, ne_eqb, node_at, nothing, ports_picture, refl, spent, state-made, state_taken, subst, sym, true, updated, view, ℕ, ◌-◌, ◌/◌, ◌%◌, ◌^◌, ◌∙◌, ◌≡◌, ◌≢◌, ◌≤◌, end_of_view}
 use Rattle.exec_table.proofs.Ends.{number-made, stage-made}
 use Rattle.node_cells.proofs.RestLaws.{due-node, quiet-node, taken-node}
 use Rattle.node_cells.proofs.UpdatedLaws.{high-bits, low-bits}
@@ -19,19 +19,10 @@ use Rattle.node_cells.proofs.StayLaws.{wires-still}
 -- ---- a word without bits
 
 named-high : (i : ℕ) → 48 ≤ i → is_node_bit i ≡ true → i ≢ 60 → i ≢ 61 → i ≢ 62 → i ≢ 63 → ⊥
-named-high i le n a b c d = absurd (grind (
-  arith,
-  n,
-  le,
-  ne_eqb i 60 a,
-  ne_eqb i 61 b,
-  ne_eqb i 62 c,
-  ne_eqb i 63 d,
-))
+named-high i le n a b c d = grind (arith, ne_eqb)
 
 unset : (w i : ℕ) → is_set w i ≡ false → bit_at w i ≡ 0
-unset w i h = let l = bit_at-lt w i in let ne : bit_at w i ≢ 1 = (λ e. let z : true ≡ false =
-    sym (eq-eqb (bit_at w i) 1 e) ∙ h in cc) in omega (arith, l, ne)
+unset w i h = grind (arith, bit_at-lt, eq-eqb)
 
 pub zero-word : (w : ℕ) → w % 2 ^ 32 ≡ 0 → w / 2 ^ 32 % 2 ^ 16 ≡ 0 → is_set w 60 ≡ false
     → is_set w 61 ≡ false → is_set w 62 ≡ false → is_set w 63 ≡ false
@@ -43,11 +34,7 @@ zero-word w low high first unborn held over named = same_from_bits w 0 (λ i. bi
     at i k h e = unset w i (ap (is_set w) e ∙ h)
 
     far : (i : ℕ) → 48 ≤ i → is_set w i ≡ true → ⊥
-    far i le s = named-high i le (named i s) (off i 60 first s) (off i 61 unborn s)
-        (off i 62 held s) (off i 63 over s)
-      where
-        off : (i k : ℕ) → is_set w k ≡ false → is_set w i ≡ true → i ≢ k
-        off i k h s e = let z : true ≡ false = sym s ∙ (ap (is_set w) e ∙ h) in cc
+    far i le s = grind (arith, named-high, named)
 
     bit : (i : ℕ) → bit_at w i ≡ 0
     bit i = elim (cases_lt i 32) [
@@ -101,29 +88,17 @@ module _ {t : Identity} {old new : NodeSeat} (o : IsSeatOf t old) (f : IsFreeNod
     where
       unnamed-parts : (u : Updated) → is_named_by u ≡ false
           → (u.inputs ≡ 0) × (u.outputs ≡ 0) × (u.first ≡ false)
-      unnamed-parts u h = (
-        eqb-true u.inputs 0 (grind (arith, h)),
-        eqb-true u.outputs 0 (grind (arith, h)),
-        grind (arith, h),
-      )
+      unnamed-parts u h = grind (arith, eqb-true)
 
   named : is_named_by u ≡ true → w ≢ 0
-  named h e = let z : false ≡ true = sym (ap (λ v. is_named_by (updated_of v)) e)
-      ∙ (sym (ap is_named_by (m.ports ∙ ap updated_of (sym word-is))) ∙ h) in cc
+  named h e = grind (arith, word-is)
 
   state-begun : (view new).state ≡ state_taken (view old) m.word (spent m.word)
   state-begun = state-made o m.makes
 
   pub tokens-begun : (view old).state.tokens ≡ 1
       → (view new).state.tokens ≡ cond (is_named_by u) 1 0
-  tokens-begun one = ap (λ (z : SeatState). z.tokens) state-begun
-      ∙ (ap (λ k. k - spent m.word) one ∙ (ap (λ v. 1 - spent v) (sym word-is) ∙ by-name))
-    where
-      by-name : 1 - spent w ≡ cond (is_named_by u) 1 0
-      by-name = elim (cases_Bool (is_named_by u)) [
-        | inl h ↦ ap (λ b. 1 - cond b 1 0) (ne_eqb w 0 (named h)) ∙ ap (λ b. cond b 1 0) (sym h)
-        | inr h ↦ ap (λ v. 1 - spent v) (unnamed h) ∙ ap (λ b. cond b 1 0) (sym h)
-      ]
+  tokens-begun one = grind (arith, state-begun, word-is, cases_Bool, ne_eqb, named, unnamed)
 
   pub begin-stage : (view new).stage ≡ Begun
   begin-stage = stage-made o m.makes
@@ -138,22 +113,7 @@ record IsBack (old new : NodeSeat) : Type 0 where
 module _ {t : Identity} {old new : NodeSeat} (due : Bool) (o : IsSeatOf t old)
     (w : TakesBack t due old new) (one : (view old).state.tokens ≡ cond due 1 0) where
   back : IsBack old new
-  back = elim (cases_Bool due) [
-    | inl q ↦ record {
-      state = state-made o (w.took q) ∙ ap (λ k. record (view old).state { tokens = k - 1 })
-          (one ∙ ap (λ b. cond b 1 0) q);
-      stage = stage-made o (w.took q);
-      number = number-made o (w.took q);
-      wires = wires-still o (w.took q) (λ _. refl);
-    }
-    | inr q ↦ record {
-      state = ap (λ s. (view s).state) (w.left q) ∙ ap (λ k. record (view old).state { tokens = k })
-          (one ∙ ap (λ b. cond b 1 0) q);
-      stage = ap (λ s. (view s).stage) (w.left q);
-      number = ap (λ s. (view s).number) (w.left q);
-      wires = λ e. ap (λ s. (end_of_view (view s) e).wire) (w.left q);
-    }
-  ]
+  back = grind (arith, cases_Bool, state-made, stage-made, number-made, wires-still)
 
   back-node : (b : BoxPicture) (m : NodeMark) (p : NodePorts)
       → CellNodeHolds b m (ports_picture p old) → CellNodeHolds b m (ports_picture p new)
@@ -174,8 +134,7 @@ module _ {P : Type 0} (seen : P → BoxPicture) (t : Identity) (old : NodeCell P
   }
 
   tokens-in : (view a).state.tokens ≡ 1
-  tokens-in = ap (λ (z : SeatState). z.tokens) (state-made h.cell.seat i)
-      ∙ ap (λ k. k + 1) h.tokens
+  tokens-in = grind (arith, state-made h.cell.seat i)
 
   tokens-out : (view b).state.tokens ≡ cond (is_named_by u) 1 0
   tokens-out = tokens-begun i.seat free u m tokens-in
@@ -230,13 +189,4 @@ module _ {P : Type 0} (seen : P → BoxPicture) (t : Identity) (old : NodeCell P
 -- a node at rest may begin
 pub home-begins : {P : Type 0} (seen : P → BoxPicture) (t : Identity) (c : NodeCell P)
     → AtHome seen t c → c.mark.state ≡ node.Resting → MayBegin seen t c
-home-begins seen t c h rests = let begun = h.home.begun rests in record {
-  cell = h.cell;
-  quiet = h.home.actions;
-  tokens = h.home.tokens;
-  owes = h.home.owes;
-  free = h.home.idle rests;
-  born = ap is_unborn_stage begun;
-  going = ap is_over_stage begun;
-  mark = λ o. let z : node.Resting ≡ node.Over = sym rests ∙ o in cc;
-}
+home-begins seen t c h rests = grind (arith, free)

@@ -1,5 +1,5 @@
 -- A node that was charged is one of the table's.
-use Rattle.node_cells.proofs.Imports.{Board, Bool, Identity, Lane, MakesStep, None, NodePorts, NodeSeat, NodeView, IsPort, Option, Port, PortsHold, PortsPicture, SamePorts, Some, Wire, ap, arith, edge_of, end_for, end_of_view, false, is_own_port, knows, lane_at, length, node_at, port_at, ports_picture, refl, subst, sym, true, view, view-end, ℕ, ◌<◌, ◌∙◌, ◌≡◌, ◌≤◌}
+use Rattle.node_cells.proofs.Imports.{Board, Bool, Identity, Lane, MakesStep, None, NodePorts, NodeSeat, NodeView, IsPort, Option, Port, PortsHold, PortsPicture, SamePorts, Some, Wire, ap, arith, edge_of, end_for, end_of_view, false, is_own_port, length, ports_picture, refl, subst, sym, true, view, view-end, ℕ, ◌<◌, ◌∙◌, ◌≡◌, ◌≤◌}
 use Rattle.exec_table.specs.Boards.{Holds, node_view}
 use Rattle.core_laws.specs.Views.{wire_ok}
 use Rattle.core_laws.specs.declared.types.Sizes.{Sizes}
@@ -12,17 +12,14 @@ use Rattle.node_ports.specs.Ports.{PortKnown}
 use Rattle.node_ports.specs.declared.actions.Carry.{Carry}
 use Rattle.node_ports.specs.declared.actions.Carry.TheVariants as carry
 use Rattle.port_word.specs.declared.flags.Action.{Action}
-use Rattle.port_word.specs.declared.flags.Port.TheVariants.{Input, Output}
 
 -- an edge that an end knows has the wire that it knows
 end-wire : (n : ℕ) (k : Bool) (x : Option Wire) (l : Lane) (w : Wire)
     → (end_for n k x l).wire ≡ Some w → (k ≡ true) × (x ≡ Some w)
-end-wire n true x l w h = grind (arith, h)
-end-wire n false x l w h = grind (arith, h)
+end-wire n k x l w h = grind arith
 
 peer-inside : (nodes : ℕ) (w : Wire) → wire_ok nodes w ≡ true → (p : Port) → peer w p < nodes
-peer-inside nodes w ok (Input i) = grind arith
-peer-inside nodes w ok (Output o) = grind arith
+peer-inside nodes w ok p = grind arith
 
 pub few-nodes : (s : Sizes) → fits s ≡ true → s.nodes ≤ 256
 few-nodes s h = grind arith
@@ -30,11 +27,7 @@ few-nodes s h = grind arith
 -- the wire that a node's view has of an edge joins two of the table's nodes
 view-wire : (b : Board) → Holds b → (n e : ℕ) (w : Wire)
     → (end_of_view (node_view b n) e).wire ≡ Some w → wire_ok b.core.sizes.nodes w ≡ true
-view-wire b h n e w at =
-    let k : Bool = knows e (node_at b.core n).seen in
-    let x : Option Wire = (port_at b.core e).wire in
-    let both = end-wire n k x (lane_at b e) w (sym (ap (λ z. z.wire) (view-end b n e h)) ∙ at) in
-    (h.laws.edges.each e (h.laws.edges.known n e both.0)).wired.sound w both.1
+view-wire b h n e w at = grind (arith, end-wire, view-end)
 
 -- the node at the other end of a port
 peer-of-port : (t : Identity) (c : PortsPicture) (seat ready : NodeSeat) → c.node ≡ view seat
@@ -51,8 +44,7 @@ peer-of-port t c seat ready is h m p own =
     (ap (λ (s : Sizes). s.nodes) sizes) ok) p)
 
 carry-charged : (k n : ℕ) (b : Bool) → carry.Charged n ≡ carry_of k b → (b ≡ true) × (n ≡ k)
-carry-charged k n true h = (grind arith, grind (arith, h))
-carry-charged k n false h = absurd (let z : carry.Charged n ≡ carry.Told = h in cc)
+carry-charged k n b h = grind arith
 
 pub charged-inside : (t : Identity) (c : PortsPicture) (p : NodePorts) (new : NodeSeat)
     (r : Carry) (n : ℕ) → CarriesNext t r c p new → r ≡ carry.Charged n → n < t.sizes.nodes

@@ -32,10 +32,7 @@ module _ (wires : List Wire) (table_edge : ℕ → ℕ) (b : Board) (cells : Lis
       (omega (arith, lt, count))
 
   pub ends-well : EndsWell wires cells
-  ends-well = record {
-    done = run-done wires (pictures cells) edges running quiet due;
-    stuck = run-stuck wires (pictures cells) edges running quiet due;
-  }
+  ends-well = search (arith, run-done, running, quiet, due, run-stuck)
 
 pub end-law : EndLaw
 end-law wires table_edge b cells s = ends-well wires table_edge b cells s

@@ -1,9 +1,9 @@
 -- The cells of a new table: one of a fresh processor may begin, and one of a blank one is kept.
-use Rattle.node_cells.proofs.Imports.{BoxHolds, BoxPicture, Identity, Input, IsPort, List, Lists, MarkHolds, NodeCell, CellNodeHolds, NodeView, None, Output, Picture, Port, PortsHold, SeatState, Wire, [], ap, arith, cases_Bool, cell_ports, cond, eq-eqb, false, identity_of, inl, inr, input_count, is_over_stage, is_unborn_stage, length, length-map, output_count, pulled_by, pushed_by, refl, rules, subst, sym, true, view, wire_at, ℕ, ◌++◌, ◌<◌, ◌∙◌, ◌≡◌, ◌⊎◌, PortsPicture, Some, edge_of, end_of_view, is_own_port}
+use Rattle.node_cells.proofs.Imports.{BoxHolds, BoxPicture, Identity, Input, IsPort, List, Lists, MarkHolds, NodeCell, CellNodeHolds, NodeView, Output, Picture, Port, PortsHold, SeatState, Wire, [], ap, arith, cases_Bool, cell_ports, cond, eq-eqb, false, identity_of, inl, inr, input_count, is_over_stage, is_unborn_stage, length, length-map, output_count, pulled_by, pushed_by, refl, subst, sym, true, view, wire_at, ℕ, ◌++◌, ◌<◌, ◌∙◌, ◌≡◌, ◌⊎◌, PortsPicture, Some, edge_of, end_of_view, is_own_port}
 use Rattle.core_laws.specs.Start.{start_node}
 use Rattle.core_laws.specs.declared.types.Sizes.{Sizes}
 use Rattle.exec_laws.specs.Names.{AreEdgesOf}
-use Rattle.exec_laws.specs.Prelude.{IsBlank, IsFresh, Reserve, StandStill, new_picture, no_box, no_lists}
+use Rattle.exec_laws.specs.Prelude.{IsBlank, IsFresh, Reserve, new_picture, no_box, no_lists}
 use Rattle.exec_laws.specs.declared.edges.NodeMark.{NodeMark}
 use Rattle.exec_laws.specs.declared.edges.NodeStatus.TheVariants as node
 use Rattle.exec_table.specs.Made.{IsNewTable, IsOpen}
@@ -13,7 +13,7 @@ use Rattle.exec_table.specs.declared.make.Made.{Made}
 use Rattle.exec_table.specs.declared.rule.ExecTable.{ExecTable}
 use Rattle.exec_table.specs.declared.rule.NodeSeat.{NodeSeat}
 use Rattle.exec_table.specs.declared.rule.RootSeat.{RootSeat}
-use Rattle.exec_table.specs.declared.types.Stage.TheVariants.{Begun, Born, Unborn}
+use Rattle.exec_table.specs.declared.types.Stage.TheVariants.{Born, Unborn}
 use Rattle.node_cells.proofs.NewPorts.{new-edges, new-ports, new_ports_picture, nothing-pulled, nothing-pushed, state-start, new-wires}
 use Rattle.node_cells.specs.NewCells.{AreNewCells, AreNewNodes, AreNewPorts, AreNewReserves, Fills, HasEdgeAt, HasPortsWithinLimits, IsGraphOfNodes, IsNewCell, IsNewNodeAt, ends_at, first_mark, node_of_cell, sizes_of}
 use Rattle.node_cells.specs.Stored.{AwaitsBirth, StoredAs}
@@ -23,7 +23,7 @@ use Rattle.node_cells.specs.declared.new_cells.NewNode.{NewNode}
 use Rattle.proc_api.proofs.Follows.{follows-new, position-still}
 use Rattle.proc_api.proofs.Graphs.{few-inputs, few-outputs, input-of-count, output-of-count}
 use Rattle.proc_api.specs.Reserves.{AreStarting, StartsAs, is_reserved}
-use Rattle.std.proofs.Common.{map, suc, zero, ◌∷◌}
+use Rattle.std.proofs.Common.{map, suc, ◌∷◌}
 use Rattle.std.proofs.Math.ListN.{get_elem?, get_or}
 use Rattle.std.proofs.lemmas.Bool.{and_from, both_ways}
 use Rattle.std.proofs.lemmas.List.FromFn.{get_or-map-range_with_len}
@@ -31,10 +31,7 @@ use mathlib.Core.Option.{some, some-injective, some-ne-none}
 
 -- a fresh box keeps its contract where nothing passed
 pub fresh-box : (p : BoxPicture) (ins outs : ℕ) → IsFresh p → BoxHolds ins outs p no_lists no_lists
-fresh-box p ins outs fresh =
-    let still : StandStill p.spec p.notes.view ins outs =
-    rw fresh.notes (position-still p.spec None ins outs tt) in
-    search (rules, fresh.notes, fresh.keeps, still)
+fresh-box p ins outs fresh = grind (arith, position-still)
 
 module _ {P : Type 0} (seen : P → BoxPicture) (t : Identity)
     (g : IsGraphOfNodes t.sizes.nodes t.sizes.wires t.sizes.reserves) (n : ℕ)
@@ -51,17 +48,7 @@ module _ {P : Type 0} (seen : P → BoxPicture) (t : Identity)
 
   first-ports : cell_ports x ≡ new_ports_picture t.sizes n inside g x.ports.inputs.items
       x.ports.outputs.items x.ports.sources.items x.ports.targets.items new.inputs new.outputs
-  first-ports = λ j. record {
-    node = seat.1 j;
-    slots = seat.2 j;
-    view = new.view j;
-    inputs = x.ports.inputs.items;
-    outputs = x.ports.outputs.items;
-    sources = x.ports.sources.items;
-    targets = x.ports.targets.items;
-    needed = new.needed j;
-    updated = new.updated j;
-  }
+  first-ports = grind arith
 
   new-numbers : AreEdgesOf t.sizes.wires n x.ports.inputs.items x.ports.outputs.items
   new-numbers = new-edges t.sizes n inside g _ _ _ _ new.inputs new.outputs
@@ -89,9 +76,7 @@ module _ {P : Type 0} (seen : P → BoxPicture) (t : Identity)
   state-is = ap (λ (v : NodeView). v.state) seat.1 ∙ state-start t.sizes n inside
 
   stage-is : (view x.seat).stage ≡ start_stage t.sizes n
-  stage-is = ap (λ (v : NodeView). v.stage) seat.1
-      ∙ get_or-map-range_with_len (start_stage t.sizes) 0 t.sizes.nodes n n Begun inside
-      (omega arith)
+  stage-is = grind (arith, get_or-map-range_with_len)
 
   new-begins : IsFresh box → is_reserved t.sizes.reserves n ≡ false → x.mark ≡ first_mark false
       → MayBegin seen t x
@@ -155,19 +140,16 @@ module _ {P : Type 0} (seen : P → BoxPicture) (t : Identity)
 
 elem-map : {A B : Type 0} (f : A → B) (xs : List A) (k : ℕ) (x : A) → get_elem? xs k ≡ some x
     → get_elem? (map f xs) k ≡ some (f x)
-elem-map f [] k x h = absurd (some-ne-none x (sym h))
-elem-map f (y ∷ ys) zero x h = ap (λ z. some (f z)) (some-injective y x h)
 elem-map f (y ∷ ys) (suc k) x h = elem-map f ys k x h
+elem-map f xs k x h = grind (arith, some-ne-none, some-injective)
 
 elem-below : {A : Type 0} (xs : List A) (k : ℕ) (x : A) → get_elem? xs k ≡ some x → k < length xs
-elem-below [] k x h = absurd (some-ne-none x (sym h))
-elem-below (y ∷ ys) zero x h = omega arith
 elem-below (y ∷ ys) (suc k) x h = let lt = elem-below ys k x h in omega (arith, lt)
+elem-below xs k x h = grind (arith, some-ne-none)
 
 elem-or : {A : Type 0} (xs : List A) (k : ℕ) (x d : A) → get_elem? xs k ≡ some x → get_or xs k d ≡ x
-elem-or [] k x d h = absurd (some-ne-none x (sym h))
-elem-or (y ∷ ys) zero x d h = some-injective y x h
 elem-or (y ∷ ys) (suc k) x d h = elem-or ys k x d h
+elem-or xs k x d h = grind (arith, some-ne-none, some-injective)
 
 -- the cells of new nodes have their reserves
 pub cells-reserve : {P : Type 0} (ranks : List ℕ) (wires : List Wire) (reserves : List Reserve)
@@ -213,8 +195,7 @@ cells-made {P} seen boxes ranks wires reserves workers nodes m c g starting new 
 
     box-at : (k : ℕ) (x : NodeCell P) → get_elem? c.cells.items k ≡ some x
         → get_elem? boxes k ≡ some x.processor
-    box-at k x is = subst (λ l. get_elem? l k ≡ some x.processor) fills.processors
-        (elem-map (λ (z : NodeCell P). z.processor) c.cells.items k x is)
+    box-at k x is = grind (arith, get_elem?, elem-map)
 
     below : (k : ℕ) (x : NodeCell P) → get_elem? c.cells.items k ≡ some x → k < length boxes
     below k x is = elem-below boxes k x.processor (box-at k x is)
@@ -229,8 +210,7 @@ cells-made {P} seen boxes ranks wires reserves workers nodes m c g starting new 
 
     ports : (k : ℕ) (x : NodeCell P) → get_elem? c.cells.items k ≡ some x
         → AreNewPorts t.sizes.wires k x.ports
-    ports k x is =
-        subst (λ (s : Sizes). AreNewPorts s.wires k x.ports) (sym sizes) (node-at k x is).ports
+    ports k x is = grind (arith, sizes, node-at k x is)
 
     box : (k : ℕ) (x : NodeCell P) → get_elem? c.cells.items k ≡ some x
         → StartsAs (is_reserved t.sizes.reserves k) (seen x.processor)
@@ -245,20 +225,14 @@ cells-made {P} seen boxes ranks wires reserves workers nodes m c g starting new 
 
     mark : (k : ℕ) (x : NodeCell P) → get_elem? c.cells.items k ≡ some x
         → x.mark ≡ first_mark (is_reserved t.sizes.reserves k)
-    mark k x is = (node-at k x is).mark
-        ∙ ap (λ (s : Sizes). first_mark (is_reserved s.reserves k)) (sym sizes)
+    mark k x is = grind (arith, node-at, sizes)
 
 -- ---- the loops
 
 last-or : {A : Type 0} (l : List A) (a b : A) (k : ℕ) → get_elem? (l ++ a ∷ []) k ≡ some b
     → (get_elem? l k ≡ some b) ⊎ ((k ≡ length l) × (a ≡ b))
-last-or [] a b zero h = inr (refl, some-injective a b h)
-last-or [] a b (suc k) h = absurd (some-ne-none b (sym h))
-last-or (y ∷ ys) a b zero h = inl h
-last-or (y ∷ ys) a b (suc k) h = elim (last-or ys a b k h) [
-  | inl is ↦ inl is
-  | inr at ↦ inr (ap suc at.0, at.1)
-]
+last-or (y ∷ ys) a b (suc k) h = grind (arith, last-or ys a b k h)
+last-or l a b k h = grind (arith, some-injective, some-ne-none)
 
 -- one more node
 pub more-nodes : (ranks : List ℕ) (wires : List Wire) (rs : List Reserve)
@@ -274,10 +248,8 @@ more-nodes ranks wires rs boxes all x h here k y is = elim (last-or all x y k is
 -- a port that has an edge is found
 pub edge-found : (wires : List Wire) (n : ℕ) (p : Port) → HasEdgeAt wires n p
     → ((e : ℕ) → e < length wires → ends_at (wire_at wires e) n p ≡ false) → ⊥
-edge-found wires n (Input i) h none = both_ways _ (none h.0 h.1.in_range)
-    (and_from _ _ (eq-eqb _ _ h.1.at_port.0) (eq-eqb _ _ h.1.at_port.1))
-edge-found wires n (Output o) h none = both_ways _ (none h.0 h.1.in_range)
-    (and_from _ _ (eq-eqb _ _ h.1.at_port.0) (eq-eqb _ _ h.1.at_port.1))
+edge-found wires n (Input i) h none = grind (arith, both_ways, and_from, eq-eqb)
+edge-found wires n (Output o) h none = grind (arith, both_ways, and_from, eq-eqb)
 
 -- the ports of a graph's nodes
 pub graph-ports : (nodes : ℕ) (wires : List Wire) (rs : List Reserve)
@@ -291,7 +263,5 @@ graph-ports nodes wires rs g n = record {
 }
   where
     each : (p : Port) → IsPort (input_count wires n) (output_count wires n) p → HasEdgeAt wires n p
-    each (Input i) lt = let w = input-of-count g.ranks wires rs g.graph n i lt in
-        (w.edge, record { in_range = w.in_range; at_port = (w.to, w.input_is) })
-    each (Output o) lt = let w = output-of-count g.ranks wires rs g.graph n o lt in
-        (w.edge, record { in_range = w.in_range; at_port = (w.from, w.out_is) })
+    each (Input i) lt = grind (arith, input-of-count g.ranks wires rs g.graph n i lt)
+    each (Output o) lt = grind (arith, output-of-count g.ranks wires rs g.graph n o lt)

@@ -1,15 +1,14 @@
 -- What each node may grow by in a graph that wasn't run.
-use Rattle.std.proofs.Common.{Bool, List, [], ap, arith, cond, false, get_or, inl, inr, is_some, length, length-append, map, refl, subst, suc, sym, true, zero, ℕ, ◌++◌, ◌+◌, ◌<◌, ◌==◌, ◌∙◌, ◌∷◌, ◌≡◌, ◌≤◌, ◌⊎◌}
+use Rattle.std.proofs.Common.{List, [], ap, arith, cond, get_or, inl, inr, length, length-append, map, refl, suc, sym, zero, ℕ, ◌++◌, ◌+◌, ◌<◌, ◌==◌, ◌∙◌, ◌∷◌, ◌≡◌, ◌≤◌, ◌⊎◌}
 use Rattle.std.proofs.lemmas.Bool.{and_from, cases_Bool, le-leb, lt-ltb}
 use Rattle.std.proofs.lemmas.List.{get_or-map}
 use Rattle.std.proofs.lemmas.List.Folds.{list_any_at}
 use native.Mathlib.Numerals.{unary_clauses}
 use Rattle.exec_laws.specs.Names.{blanks_of, reserve_of}
 use Rattle.exec_laws.specs.Prelude.{BoxPicture, Reserve, no_box}
-use Rattle.exec_laws.specs.declared.growth.Blank.{Blank}
 use Rattle.node_cells.specs.NewReserves.{IsBlankReserve}
 use Rattle.port_word.specs.declared.flags.Wire.{Wire}
-use Rattle.proc_api.specs.Reserves.{AreReserves, AreStarting, StartsAs, holds_node, no_reserve}
+use Rattle.proc_api.specs.Reserves.{AreReserves, AreStarting, no_reserve}
 unfoldable use Rattle.exec_laws.specs.Names.{box_at}
 unfoldable use Rattle.proc_api.specs.Reserves.{reserve_at}
 
@@ -24,24 +23,13 @@ pub more-blanks : (boxes : List BoxPicture) (r : Reserve) → IsBlankReserve box
     → k < r.nodes → blanks_of boxes [] r.first_node k
     ++ record { node = r.first_node + k; kind = (box_at boxes (r.first_node + k)).kind } ∷ []
     ≡ blanks_of boxes [] r.first_node (k + 1)
-more-blanks boxes r h k lt = simp unary_clauses (sym (ap (λ b.
-    blanks_of boxes [] r.first_node k ++ cond b []
-    (record { node = r.first_node + k; kind = (box_at boxes (r.first_node + k)).kind } ∷ []))
-    (ap is_some (h.blank k lt))))
+more-blanks boxes r h k lt = grind (arith, unary_clauses)
 
 -- they are no more than the nodes of the reserve
 pub few-blanks : (boxes : List BoxPicture) (first k : ℕ)
     → length (blanks_of boxes [] first k) ≤ k
 few-blanks boxes first zero = omega arith
-few-blanks boxes first (suc k) =
-    let before = few-blanks boxes first k in
-    let one = at-most-one (is_some (box_at boxes (first + k)).spec)
-    (record { node = first + k; kind = (box_at boxes (first + k)).kind }) in
-    rw length-append (omega (arith, before, one))
-  where
-    at-most-one : (b : Bool) (x : Blank) → length (cond b [] (x ∷ [])) ≤ 1
-    at-most-one true x = omega arith
-    at-most-one false x = omega arith
+few-blanks boxes first (suc k) = grind (arith, length-append, few-blanks boxes first k)
 
 -- a node has one of the reserves, or none
 found : (rs : List Reserve) (n : ℕ) → (reserve_of rs n ≡ no_reserve)
@@ -56,28 +44,10 @@ found (r ∷ rs) n = elim (cases_Bool (r.node == n)) [
   ]
 ]
 
-holds-own : (r : Reserve) (k : ℕ) → k < r.nodes → holds_node (r.first_node + k) r ≡ true
-holds-own r k lt = and_from _ _ (le-leb r.first_node (r.first_node + k) (omega arith))
-    (lt-ltb (r.first_node + k) (r.first_node + r.nodes) (omega (arith, lt)))
-
 -- the nodes of each reserve of a starting graph are blank
 pub blank-reserve : (nodes base : ℕ) (wires : List Wire) (rs : List Reserve)
     (boxes : List BoxPicture) → AreReserves nodes base wires rs → AreStarting rs boxes
     → length boxes ≡ nodes → nodes ≤ 256 → (n : ℕ) → IsBlankReserve boxes (reserve_of rs n)
 unfolding reserve_at box_at
-blank-reserve nodes base wires rs boxes are starting many few n = elim (found rs n) [
-  | inl none ↦ rw none record {
-    few = omega (arith, many, few);
-    within = omega arith;
-    blank = λ k lt. absurd (omega (arith, lt));
-  }
-  | inr at ↦ let in_range = at.1.0 in let within = are.nodes_within at.0 in_range in
-      subst (IsBlankReserve boxes) at.1.1 record {
-        few = omega (arith, many, few);
-        within = omega (arith, within, many);
-        blank = λ k lt. subst (λ b. StartsAs b (box_at boxes ((reserve_at rs at.0).first_node + k)))
-            (list_any_at (holds_node ((reserve_at rs at.0).first_node + k)) rs at.0 no_reserve
-            in_range (holds-own (reserve_at rs at.0) k lt))
-            (starting ((reserve_at rs at.0).first_node + k) (omega (arith, within, many, lt)));
-      }
-]
+blank-reserve nodes base wires rs boxes are starting many few n =
+    grind (arith, found, list_any_at, and_from, le-leb, lt-ltb)

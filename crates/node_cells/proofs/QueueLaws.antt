@@ -1,5 +1,5 @@
 -- Charged nodes are put into the queue, or stay with the worker.
-use Rattle.node_cells.proofs.Imports.{BoxPicture, Identity, NodeCell, None, Option, [], ap, append-nil, cell_ports, subst, sym, ℕ, ◌++◌, ◌∙◌, ◌≡◌}
+use Rattle.node_cells.proofs.Imports.{arith, BoxPicture, Identity, NodeCell, None, Option, [], ap, append-nil, cell_ports, subst, sym, ℕ, ◌++◌, ◌∙◌, ◌≡◌}
 use Rattle.node_cells.specs.Turns.{FollowsAnswer, IsCarried, IsPrepared, Queues, Runs, Stays, TakesTurns, Turn, runs_more, runs_none, charged_by, charges_more, charges_none}
 use Rattle.node_cells.specs.declared.stop_cause.StopCause.{StopCause}
 use Rattle.node_ports.specs.Peers.{CarriesNext}
@@ -57,17 +57,7 @@ module _ {P : Type 0} {seen : P → BoxPicture} {t : Identity} {q : TaskQueue} w
       → IsCarried seen t carried s → Stays seen o carried new
       → FollowsAnswer s o (seen carried.processor) (seen new.processor)
       → Turn seen t q o mid new between after
-  turn-of stays prepares queues carries leaves follows = record {
-    status = _;
-    prepared = _;
-    carried = _;
-    stays = stays;
-    prepares = prepares;
-    queues = queues;
-    carries = carries;
-    leaves = leaves;
-    follows = follows;
-  }
+  turn-of stays prepares queues carries leaves follows = search arith
 
   turn-offers : {o : Option StopCause} {old new : NodeCell P} {before after : WorkerTasks}
       → Turn seen t q o old new before after → OffersNumbers q before after

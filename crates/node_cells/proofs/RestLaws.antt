@@ -1,5 +1,5 @@
 -- A node leaves its turn, or begins another.
-use Rattle.node_cells.proofs.Imports.{StepAnswer, Identity, SameLists, is_over_stage, is_unborn_stage, BoxHolds, BoxPicture, InTurn, IsSeatOf, Lists, MakesStep, MakesUpdated, MarkHolds, NodeCell, CellNodeHolds, NodeMark, NodePorts, NodeSeat, None, PortsPicture, SeatState, ap, arith, cell_ports, edges_of, false, is_due, is_waiting, length, nothing, ports_picture, refl, state-made, subst, sym, true, updated, view, ℕ, ◌∙◌, ◌≡◌, ◌≢◌}
+use Rattle.node_cells.proofs.Imports.{StepAnswer, Identity, SameLists, is_over_stage, is_unborn_stage, BoxHolds, BoxPicture, InTurn, IsSeatOf, Lists, MakesStep, MakesUpdated, NodeCell, CellNodeHolds, NodeMark, NodePorts, NodeSeat, None, PortsPicture, SeatState, ap, arith, cell_ports, edges_of, false, is_due, is_waiting, length, nothing, ports_picture, refl, state-made, subst, sym, true, updated, view, ℕ, ◌∙◌, ◌≡◌, ◌≢◌}
 use Rattle.exec_table.proofs.Ends.{stage-made}
 use Rattle.node_cells.proofs.UpdatedLaws.{taken-updated}
 use Rattle.node_ports.proofs.StillLaws.{StaysSeat, still-holds, still-lists, still-quiet, still-seat}
@@ -56,12 +56,7 @@ taken-node b m p {t} {old} {new} h o w plain nowhere taken v merged = still-node
 -- and with another mark
 pub due-node : (b : BoxPicture) (m k : NodeMark) (c : PortsPicture) → CellNodeHolds b m c
     → m.state ≢ node.Over → k.state ≡ node.Due → CellNodeHolds b k c
-due-node b m k c h busy due = record {
-  ports = h.ports;
-  box = h.box;
-  kept = λ e. h.kept (λ o. absurd (busy o));
-  mark = subst (λ s. MarkHolds s k.last (length c.inputs) (length c.outputs) b c.view) (sym due) tt;
-}
+due-node b m k c h busy due = grind arith
 
 -- ---- a node rests
 
@@ -114,8 +109,7 @@ module _ {P : Type 0} (seen : P → BoxPicture) (t : Identity) (old : NodeCell P
       state-mid = state-made at m ∙ leaves
 
       stage-new : (view new).stage ≡ g
-      stage-new = stage-made m.seat r ∙ (stage-made at m
-          ∙ (ap (λ g. stage_after g p) h.prepared.holds.stage ∙ staged))
+      stage-new = grind (arith, stage-made m.seat r, stage-made at m)
 
   pub rested-due : (v u : Updated) (k : NodeMark)
       → MakesStep t old.seat mid step.Rest None (is_idle false)

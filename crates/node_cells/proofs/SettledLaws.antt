@@ -1,6 +1,6 @@
 -- From all cells and a survey in which nothing is pending: a running graph in which nothing is due.
-use Rattle.node_cells.proofs.Imports.{Board, Bool, BoxHolds, ConsumerSees, EdgeEnd, EdgeEndHolds, EdgeState, Flags, HasEdge, Input, InputFollows, InputHolds, InputPort, IsBorn, IsPort, Lane, List, MarkHolds, NodeView, None, Option, Output, OutputAllows, OutputFollows, OutputHolds, Port, PortsPicture, ProducerKnows, ProducerSees, Running, Sees, Some, Table, Wire, and_parts, ap, append-nil, append_assoc, arith, cases_Bool, cases_lt, chunks_in, chunks_of, edge_of, end_for, end_of, end_of_view, eqb-true, false, flags_at, has, inl, input_after, input_at, input_count, input_seen, inr, is_end, is_over_stage, is_own_port, is_some, is_unborn_stage, is_waiting, knows, lane_at, length, lifted_of, ne_eqb, node_at, output_after, output_at, output_count, output_seen, port_at, pulled_by, pushed_by, pushes_to, refl, rules, slot_in, stage_at, subst, sym, true, view-end, wire_at, ℕ, ◌++◌, ◌<◌, ◌||◌, ◌∙◌, ◌≡◌, ◌⊎◌}
-use Rattle.core_laws.specs.Views.{no_port, port_of}
+use Rattle.node_cells.proofs.Imports.{Board, Bool, ConsumerSees, EdgeEnd, EdgeEndHolds, EdgeState, Flags, HasEdge, Input, InputFollows, InputHolds, InputPort, IsBorn, IsPort, Lane, List, NodeView, None, Option, Output, OutputAllows, OutputFollows, OutputHolds, Port, PortsPicture, ProducerKnows, ProducerSees, Running, Sees, Some, Table, Wire, and_parts, ap, append-nil, append_assoc, arith, cases_Bool, cases_lt, chunks_in, chunks_of, edge_of, end_for, end_of, end_of_view, eqb-true, false, flags_at, has, inl, input_after, input_at, input_count, input_seen, inr, is_end, is_own_port, is_some, is_waiting, knows, lane_at, length, lifted_of, ne_eqb, node_at, output_after, output_at, output_count, output_seen, port_at, pulled_by, pushed_by, pushes_to, refl, rules, slot_in, subst, sym, true, view-end, wire_at, ℕ, ◌++◌, ◌<◌, ◌||◌, ◌∙◌, ◌≡◌, ◌⊎◌}
+use Rattle.core_laws.specs.Views.{port_of}
 use Rattle.exec_laws.specs.Names.{port_edge}
 use Rattle.core_laws.specs.declared.types.PortState.{PortState}
 use Rattle.std.proofs.Math.ListN.{get_or-eq_default}
@@ -15,19 +15,12 @@ use Rattle.core_laws.proofs.Settled.{quiet-knows, quiet-node}
 use Rattle.core_laws.proofs.Kept.{held-word}
 use Rattle.core_laws.specs.Laws.{Knows}
 use Rattle.core_laws.specs.Views.{counts, is_over, is_unborn}
-use Rattle.exec_table.specs.declared.types.Stage.TheVariants.{Begun}
 use Rattle.exec_laws.specs.declared.edges.NodeStatus.TheVariants as node
 
 -- ---- what ends know
 
 input-follows : (p f : Flags) → ConsumerSees p f → InputFollows f p
-input-follows p f s = record {
-  needed = sym s.needed;
-  fin_in = sym s.fin_in;
-  fin_out = s.fin_out;
-  stays_empty = s.ended;
-  stays_full = λ e. s.has_data (and_parts f.has_data _ e).0;
-}
+input-follows p f s = grind (arith, and_parts)
 
 output-follows : (p f : Flags) → ProducerSees p f → OutputFollows f p
 output-follows p f s = record { fin_out = sym s.fin_out; fin_in = s.fin_in }
@@ -51,19 +44,14 @@ producer-chunks n w l h k = grind arith
 
 split-content : (x y : Option Table) → ((c : Table) → x ≡ Some c → y ≡ Some c)
     → chunks_in y ≡ chunks_of x ++ chunks_of (unlifted x y)
-split-content None None h = refl
-split-content None (Some c) h = refl
-split-content (Some c) y h = ap chunks_in (h c refl)
+split-content x y h = grind arith
 
 there-content : (x y : Option Table) → ((c : Table) → x ≡ Some c → y ≡ Some c)
     → is_some y ≡ (is_some x || is_some (unlifted x y))
-there-content None None h = refl
-there-content None (Some c) h = refl
-there-content (Some c) y h = ap is_some (h c refl)
+there-content x y h = grind arith
 
 one-content : (x y : Option Table) → is_some x ≡ true → unlifted x y ≡ None
-one-content None y h = absurd (let z : false ≡ true = h in cc)
-one-content (Some c) y h = refl
+one-content x y h = grind arith
 
 -- an end that is known and has a wire has that of the port
 end-wire : (n : ℕ) (w : Option Wire) (l : Lane) (x : Wire) → (end_for n true w l).wire ≡ Some x
@@ -73,11 +61,7 @@ end-wire n w l x h = grind (arith, h)
 -- a port that has a wire is one of the table's
 wired-inside : (ports : List PortState) (e : ℕ) (x : Wire) → (port_of ports e).wire ≡ Some x
     → e < length ports
-wired-inside ports e x h = elim (cases_lt e (length ports)) [
-  | inl lt ↦ lt
-  | inr le ↦ absurd (let none = get_or-eq_default ports no_port {n = e} le in
-      let q : None ≡ Some x = ap (λ (p : PortState). p.wire) (sym none) ∙ h in cc)
-]
+wired-inside ports e x h = grind (arith, cases_lt, get_or-eq_default)
 
 zero-word : (w : ℕ) → counts w ≡ 0 → is_unborn w ≡ false → is_over w ≡ false → w ≡ 0
 zero-word w c u o = eqb-true w 0 (grind (arith, c, u, o))
@@ -94,23 +78,16 @@ module _ (count : ℕ) (wires : List Wire) (table_edge : ℕ → ℕ) (b : Board
 
   pub quiet-due : (n : ℕ) → n < count → IsBorn (cells n).box
       → is_waiting (cells n).mark.state ≡ false
-  quiet-due n lt born = elim (cases_Bool (is_waiting (cells n).mark.state)) [
-    | inl w ↦ let held = (s.home n lt born).home.waits w in
-        let on = sym (ap (λ (v : NodeView). v.state.held) (s.seen n lt)) ∙ held in
-        let one = (held-word b.core n on s.board.laws.nodes).0 in
-        let none = (quiet-node b.core n s.pending s.board.laws.tokens).0 in
-        absurd (omega (arith, one, none))
-    | inr z ↦ z
-  ]
+  quiet-due n lt born = grind (
+    arith,
+    held-word,
+    cases_Bool (is_waiting (cells n).mark.state),
+    quiet-node b.core n s.pending s.board.laws.tokens,
+  )
 
   idle : (n : ℕ) → n < count → IsBorn (cells n).box → (cells n).mark.state ≡ node.Resting
       → (node_at b.core n).word ≡ 0
-  idle n lt born rest = let h = (s.home n lt born).home in
-      let stage : stage_at b n ≡ Begun = sym (ap (λ (v : NodeView). v.stage) (s.seen n lt))
-      ∙ h.begun rest in
-      let g = s.board.stages n in
-      zero-word (node_at b.core n).word (quiet-node b.core n s.pending s.board.laws.tokens).0
-      (g.unborn ∙ ap is_unborn_stage stage) (g.over ∙ ap is_over_stage stage)
+  idle n lt born rest = grind (arith, zero-word, quiet-node b.core n s.pending s.board.laws.tokens)
 
   -- ---- an end of an edge
 
@@ -294,20 +271,7 @@ module _ (count : ℕ) (wires : List Wire) (table_edge : ℕ → ℕ) (b : Board
 
   cell-holds : (n : ℕ) → CellAtHome wires table_edge n (cells n)
       → RunHolds wires n (picture_of (cells n)) (pulled_by (at n)) (pushed_by (at n))
-  cell-holds n c = let h = c.holds in let ins = c.places.ins ∙ c.places.numbers.ins in
-      let outs = c.places.outs ∙ c.places.numbers.outs in record {
-        box = subst (λ (l : ℕ × ℕ). BoxHolds l.0 l.1 (cells n).box (pulled_by (at n))
-            (pushed_by (at n))) (λ j. (ins j, outs j)) h.box;
-        view = record {
-          sound = h.ports.sound;
-          ins = h.ports.ins ∙ ins;
-          outs = h.ports.outs ∙ outs;
-        };
-        numbers = c.places.numbers;
-        kept = h.kept;
-        mark = subst (λ (l : ℕ × ℕ). MarkHolds (cells n).mark.state (cells n).mark.last l.0 l.1
-            (cells n).box (at n).view) (λ j. (ins j, outs j)) h.mark;
-      }
+  cell-holds n c = grind arith
 
   pub settled-running : Running count wires (λ n. picture_of (cells n)) edge
   unfolding pushes_to
@@ -348,7 +312,4 @@ settled-law count wires table_edge b cells s = record {
   where
     cases_Option : {A : Type 0} (x : Option A) → IsSome x ⊎ (x ≡ None)
     cases_Option None = inr refl
-    cases_Option (Some y) = inl (some-is y)
-      where
-        some-is : {A : Type 0} (y : A) → IsSome (Some y)
-        some-is y = search rules
+    cases_Option (Some y) = grind arith

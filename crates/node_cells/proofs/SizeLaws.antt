@@ -1,5 +1,5 @@
 -- The sizes of the table for a graph fit.
-use Rattle.std.proofs.Common.{Bool, List, [], ap, arith, length, refl, suc, sym, true, ℕ, ◌+◌, ◌<◌, ◌∙◌, ◌∷◌, ◌≡◌, ◌≢◌, ◌≤◌}
+use Rattle.std.proofs.Common.{Bool, List, [], ap, arith, length, refl, suc, true, ℕ, ◌<◌, ◌∷◌, ◌≡◌, ◌≤◌}
 use Rattle.std.proofs.lemmas.Bool.{and_from, lt-ltb, ne_eqb}
 use Rattle.std.proofs.lemmas.List.Recursion.{and_from_places}
 use Rattle.std.proofs.lemmas.List.Sums.{sum_by-cons}
@@ -17,8 +17,7 @@ unfoldable use Rattle.proc_api.specs.Reserves.{reserve_at}
 
 edges-same : (rs : List Reserve) → core.reserved_edge_count rs ≡ reserved_edges rs
 edges-same [] = refl
-edges-same (r ∷ rs) = ap (λ n. r.edges + n) (edges-same rs)
-    ∙ sym (sum_by-cons (λ (q : Reserve). q.edges) r rs)
+edges-same (r ∷ rs) = search (arith, sum_by-cons, edges-same rs)
 
 -- each two elements pass, where each does with each later one
 two-pass : {A : Type 0} (t : A → A → Bool) (d : A) (xs : List A) → ((j k : ℕ) → j < k
@@ -39,45 +38,17 @@ module _ (nodes workers : ℕ) (wires : List Wire) (rs : List Reserve)
   wire-fits : (e : ℕ) → e < length wires
       → wire_fits (sizes_of nodes wires rs workers) (get_or wires e no_wire) ≡ true
   unfolding wire_at
-  wire-fits e lt =
-      let is = g.graph.so_far.edges e lt in
-      let from = g.reserves_are.from_added e lt in
-      let to = g.reserves_are.to_added e lt in
-      let ranked = is.ranked in
-      let apart : (get_or wires e no_wire).to ≢ (get_or wires e no_wire).from =
-      λ q. one-rank g.ranks _ _ q ranked in
-      and_from _ _ (and_from _ _ (grind (arith, ne_eqb _ _ apart))
-      (and_from _ _ (and_from _ _ (lt-ltb _ _ from.in_range) (lt-ltb _ _ to.in_range))
-      (and_from _ _ (lt-ltb _ _ is.few_outputs) (lt-ltb _ _ is.few_inputs))))
-      (grind (arith, from.unreserved, to.unreserved))
+  wire-fits e lt = grind (arith, get_or, one-rank, and_from, ne_eqb, lt-ltb)
 
   wires-apart : (e f : ℕ) → e < f → f < length wires
       → share_no_port (get_or wires e no_wire) (get_or wires f no_wire) ≡ true
   unfolding wire_at
-  wires-apart e f lt inside = grind (
-    arith,
-    lt,
-    inside,
-    g.graph.so_far.inputs_once e f,
-    g.graph.so_far.outputs_once e f,
-  )
+  wires-apart e f lt inside = search arith
 
   reserve-fits : (k : ℕ) → k < length rs
       → reserve_fits (sizes_of nodes wires rs workers) (get_or rs k no_reserve) ≡ true
   unfolding reserve_at
-  reserve-fits k lt =
-      let growing = g.reserves_are.growing k lt in
-      let a = growing.in_range in
-      let b = growing.unreserved in
-      grind (
-        arith,
-        a,
-        b,
-        g.reserves_are.nodes_within k lt,
-        g.reserves_are.edges_behind k lt,
-        g.reserves_are.edges_within k lt,
-        edges-same rs,
-      )
+  reserve-fits k lt = search (arith, edges-same)
 
   reserves-apart : (j k : ℕ) → j < k → k < length rs
       → are_disjoint (get_or rs j no_reserve) (get_or rs k no_reserve) ≡ true

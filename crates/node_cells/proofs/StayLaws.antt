@@ -1,5 +1,5 @@
 -- What stays of a cell over the calls of a turn.
-use Rattle.node_cells.proofs.Imports.{BoxPicture, EdgeEnd, Identity, IsSeatOf, MakesStep, NodeCell, NodePorts, NodeSeat, NodeTurns, None, Option, SamePorts, Some, StepAnswer, ap, cell_ports, end_of_view, false, ports_picture, refl, subst, sym, view, ℕ, ◌∙◌, ◌≡◌, List, Wire, PortsPicture, length, Port, IsPort, edge_of, is_own_port}
+use Rattle.node_cells.proofs.Imports.{arith, BoxPicture, EdgeEnd, Identity, IsSeatOf, MakesStep, NodeCell, NodePorts, NodeSeat, NodeTurns, None, Option, SamePorts, StepAnswer, ap, cell_ports, end_of_view, false, ports_picture, view, ℕ, ◌≡◌, List, Wire, PortsPicture}
 use Rattle.core_laws.specs.declared.types.Step.{Step}
 use Rattle.exec_table.proofs.Ends.{same-made}
 use Rattle.exec_table.specs.Known.{is_at}
@@ -7,79 +7,42 @@ use Rattle.chunk_data.specs.Names.{Table as Chunk}
 use Rattle.node_cells.specs.Stops.{GrowthStays}
 use Rattle.node_cells.specs.Turns.{KeepsProcessor, Stays, turn_picture}
 use Rattle.node_cells.specs.declared.stop_cause.StopCause.{StopCause}
-use Rattle.node_cells.specs.declared.stop_cause.StopCause.TheVariants as cause
 use Rattle.node_ports.proofs.LoopLaws.{ports-both, edge-stays}
 use Rattle.exec_laws.proofs.Acting.{stays-both, stays-itself}
-use Rattle.exec_laws.specs.Names.{StaysBox}
 use Rattle.exec_table.specs.declared.types.Updated.{Updated}
 use Rattle.node_cells.specs.Ends.{HasPlaces}
 
 -- what stays of a growth over calls one after another, of which only the last may stop the run
 pub growth-both : (o : Option StopCause) (p q r : BoxPicture) → r.lawful ≡ q.lawful
     → GrowthStays None p q → GrowthStays o q r → GrowthStays o p r
-growth-both None p q r s h k = λ l. k l ∙ h (sym s ∙ l)
-growth-both (Some (cause.Fault f)) p q r s h k = λ l. k l ∙ h (sym s ∙ l)
-growth-both (Some (cause.Flaw f)) p q r s h k = λ l. sym (h (sym s ∙ l)) ∙ k l
-growth-both (Some cause.Memory) p q r s h k = tt
+growth-both o p q r s h k = grind arith
 
 module _ {P : Type 0} (seen : P → BoxPicture) where
   pub keeps-stays : (a b : NodeCell P) → KeepsProcessor a b → Stays seen None a b
-  keeps-stays a b h = record {
-    box = subst (λ p. StaysBox (seen a.processor) (seen p)) (sym h.processor)
-        (stays-itself (seen a.processor));
-    growth = λ _. ap (λ p. (seen p).growth) h.processor;
-    ports = h.ports;
-    reserve = h.reserve;
-  }
+  keeps-stays a b h = grind (arith, stays-itself)
 
   pub stay-both : (o : Option StopCause) (a b c : NodeCell P) → Stays seen None a b
       → Stays seen o b c → Stays seen o a c
-  stay-both o a b c h k = record {
-    box = stays-both (seen a.processor) (seen b.processor) (seen c.processor) h.box k.box;
-    growth = growth-both o (seen a.processor) (seen b.processor) (seen c.processor)
-        k.box.same.lawful h.growth k.growth;
-    ports = ports-both (cell_ports a) (cell_ports b) (cell_ports c) h.ports k.ports;
-    reserve = k.reserve ∙ h.reserve;
-  }
+  stay-both o a b c h k = grind (arith, stays-both, growth-both, ports-both)
 
   -- over one turn more
   pub stay-turn : (o : Option StopCause) (a b c d e : NodeCell P) → Stays seen None a b
       → Stays seen None b c → KeepsProcessor c d → Stays seen o d e → Stays seen o a e
-  stay-turn o a b c d e h k m l = stay-both o a b e h
-      (stay-both o b c e k (stay-both o c d e (keeps-stays c d m) l))
+  stay-turn o a b c d e h k m l = grind (arith, stay-both, keeps-stays)
 
   pub turned-stays : (old new : NodeCell P)
       → NodeTurns (turn_picture seen old) (turn_picture seen new)
       → (seen new.processor).growth ≡ (seen old.processor).growth
       → cell_ports new ≡ record (cell_ports old) { view = new.ports.view }
       → new.reserve ≡ old.reserve → Stays seen None old new
-  turned-stays old new turns growth ports reserve = record {
-    box = turns.prepares.stays;
-    growth = λ _. growth;
-    ports = subst (SamePorts (cell_ports old)) (sym ports) record {
-      inputs = refl;
-      outputs = refl;
-      sources = refl;
-      targets = refl;
-      number = refl;
-      wires = λ e. refl;
-    };
-    reserve = reserve;
-  }
+  turned-stays old new turns growth ports reserve = grind arith
 
 -- a step of the seat leaves its node, whatever ports are updated ones after it
 pub number-ports : (p : NodePorts) (u : Updated) (old new : NodeSeat)
     → (view new).number ≡ (view old).number
     → ((e : ℕ) → (end_of_view (view new) e).wire ≡ (end_of_view (view old) e).wire)
     → SamePorts (ports_picture p old) (ports_picture (record p { updated = u }) new)
-number-ports p u old new q wires = record {
-  inputs = refl;
-  outputs = refl;
-  sources = refl;
-  targets = refl;
-  number = q;
-  wires = wires;
-}
+number-ports p u old new q wires = grind arith
 
 -- a step at no edge leaves the wires
 pub wires-still : {t : Identity} {old new : NodeSeat} {s : Step} {x : Option Chunk} {a : StepAnswer}
@@ -91,15 +54,4 @@ wires-still o m nowhere e = ap (λ (z : EdgeEnd). z.wire) (same-made o m e (nowh
 pub same-places : (wires : List Wire) (table_edge : ℕ → ℕ) (n : ℕ) (inputs outputs : List ℕ)
     (c d : PortsPicture) → SamePorts c d → HasPlaces wires table_edge n inputs outputs c
     → HasPlaces wires table_edge n inputs outputs d
-same-places wires table_edge n inputs outputs c d s h = record {
-  numbers = h.numbers;
-  ins = ap length s.inputs ∙ h.ins;
-  outs = ap length s.outputs ∙ h.outs;
-  edge_is = λ p own. edge-stays c d s p ∙ h.edge_is p (own-before p own);
-  wire_is = λ p own. ap (λ e. (end_of_view d.node e).wire) (edge-stays c d s p)
-      ∙ (s.wires (edge_of c p) ∙ h.wire_is p (own-before p own));
-}
-  where
-    own-before : (p : Port) → is_own_port d p → is_own_port c p
-    own-before p own = subst (λ (l : List ℕ × List ℕ). IsPort (length l.0) (length l.1) p)
-        (λ j. (s.inputs j, s.outputs j)) own
+same-places wires table_edge n inputs outputs c d s h = grind (arith, edge-stays)

@@ -1,5 +1,5 @@
 -- A node that has looked at its ports is prepared.
-use Rattle.node_cells.proofs.Imports.{Input, Output, Identity, InTurn, IsSeatOf, NodeCell, NodePorts, NodeSeat, SameLists, SamePorts, cell_ports, view, Flags, BoxHolds, BoxPicture, CellPicture, FollowsKept, InputPort, IsDifference, Lists, MarkHolds, NodeMark, Picture, PortsHold, PortsPicture, Some, NodeTurns, ViewHolds, [], ap, append-nil, chunks_on, input_at, length, ports_picture, pulled_by, pushed_by, pushes_to, shown, subst, sym, taken_out, with_pulled, with_pushed, ℕ, ◌++◌, ◌∙◌, ◌≡◌, CellNodeHolds}
+use Rattle.node_cells.proofs.Imports.{arith, Identity, InTurn, IsSeatOf, NodeCell, NodePorts, NodeSeat, SameLists, SamePorts, cell_ports, view, BoxHolds, BoxPicture, CellPicture, FollowsKept, IsDifference, Lists, MarkHolds, NodeMark, Picture, PortsHold, PortsPicture, Some, NodeTurns, ViewHolds, [], ap, append-nil, chunks_on, length, ports_picture, pulled_by, pushed_by, pushes_to, shown, subst, sym, with_pulled, with_pushed, ℕ, ◌++◌, ◌∙◌, ◌≡◌, CellNodeHolds}
 use Rattle.node_ports.proofs.Shown.{quiet-sight, taken-itself}
 use Rattle.exec_laws.proofs.Turns.{explained, pushed-by-actions, turned-box, turned-kept, turned-mark, turned-view}
 use Rattle.exec_laws.specs.Names.{state_after}
@@ -7,7 +7,6 @@ use Rattle.node_ports.specs.Sights.{Looked}
 use Rattle.node_ports.specs.Peers.{HasCarriedOut}
 use Rattle.node_cells.specs.Turns.{IsDue, IsPrepared, turn_picture}
 use Rattle.proc_api.specs.declared.status.Status.{Status}
-use Rattle.port_word.specs.Names.{Explains}
 
 abbrev pub picture : BoxPicture → NodeMark → PortsPicture → CellPicture
 picture p m c = record { box = p; view = c.view; mark = m; inputs = c.inputs; outputs = c.outputs }
@@ -27,27 +26,16 @@ module _ (p q : BoxPicture) (m k : NodeMark) (c : PortsPicture) (v : Picture)
 
   -- the view shows what the seat knows as its actions will leave it
   new-difference : IsDifference (shown after) v
-  new-difference = let e = explained (length c.inputs) (length c.outputs) (picture p m c)
-      (picture q k after) t quiet (pulled_by c) (pushed_by c) h.box seen-view in
-      subst (λ (z : (ℕ → InputPort) × (ℕ → Flags)). Explains (λ i. (z.0 i).flags)
-      (λ i. (z.0 i).chunk) (λ o. z.1 o) v.actions v)
-      (λ j. (
-        (λ i. quiet-sight c h.ports quiet (Input i) j),
-        (λ o.
-            (quiet-sight c h.ports quiet (Output o) j).flags),
-      ))
-      e.explains
+  new-difference = grind (
+    arith,
+    seen-view,
+    quiet-sight,
+    explained (length c.inputs) (length c.outputs) (picture p m c) (picture q k after) t quiet
+        (pulled_by c) (pushed_by c) h.box seen-view,
+  )
 
   pulled-new : (i : ℕ) → with_pulled c.view t.left (pulled_by c) i ≡ pulled_by after i
-  pulled-new i = let same = quiet-sight c h.ports quiet (Input i) in
-      (λ j. (chunks_on c.node c.inputs i
-      ++ taken_out (input_at (shown c) i).chunk (same j).chunk)
-      ++ taken_out (same j).chunk (sym (t.leaves.chunks.inputs i) j))
-      ∙ (ap (λ l. (chunks_on c.node c.inputs i ++ l)
-      ++ taken_out (input_at (shown c) i).chunk (input_at v i).chunk)
-      (taken-itself (input_at (shown c) i).chunk)
-      ∙ ap (λ l. l ++ taken_out (input_at (shown c) i).chunk (input_at v i).chunk)
-      (append-nil (chunks_on c.node c.inputs i)))
+  pulled-new i = grind (arith, quiet-sight, taken-itself, append-nil)
 
   pushed-new : (o : ℕ) → with_pushed c.view t.left (pushed_by c) o ≡ pushed_by after o
   unfolding pushes_to
@@ -58,33 +46,7 @@ module _ (p q : BoxPicture) (m k : NodeMark) (c : PortsPicture) (v : Picture)
       ∙ ap (λ l. l ++ pushes_to o v.actions) (append-nil (chunks_on c.node c.outputs o))
 
   new-ports : PortsHold after
-  new-ports = record {
-    known = λ p own. let w = h.ports.known p own in record {
-      known = w.known;
-      wire = w.wire;
-      is = w.is;
-      at_port = w.at_port;
-      apart = w.apart;
-      other = w.other;
-    };
-    cover = λ e k. let w = h.ports.cover e k in record {
-      port = w.port;
-      there = w.there;
-      is = w.is;
-    };
-    bare = h.ports.bare;
-    unlooked = h.ports.unlooked;
-    updated = h.ports.updated;
-    peers = h.ports.peers;
-    ins = new-view.ins;
-    outs = new-view.outs;
-    needed = h.ports.needed;
-    needed_len = h.ports.needed_len;
-    difference = new-difference;
-    sound = new-view.sound;
-    held = h.ports.held;
-    ready = h.ports.ready;
-  }
+  new-ports = grind (arith, new-view, new-difference)
 
   pub turned-cell : CellNodeHolds q k after
   turned-cell = let ins = length c.inputs in let outs = length c.outputs in record {

@@ -1,5 +1,5 @@
 -- A step that takes the node's word: the ports that the word names are updated ones from now on.
-use Rattle.node_cells.proofs.Imports.{Board, Identity, Input, IsSeatOf, MakesUpdated, NodePorts, NodeSeat, NodeView, Output, Port, PortsHold, PortsPicture, SeatState, Some, Wire, and_parts, ap, arith, edge_of, edges_of, end_of_view, false, has, has-filter, inl, inr, is_due, is_set, knows, node_at, ports_picture, state-made, sym, true, updated, view, ℕ, ◌+◌, ◌/◌, ◌%◌, ◌<◌, ◌==◌, ◌^◌, ◌||◌, ◌∙◌, ◌≡◌}
+use Rattle.node_cells.proofs.Imports.{Board, Identity, Input, IsSeatOf, MakesUpdated, NodePorts, NodeSeat, Output, Port, PortsHold, PortsPicture, SeatState, Some, Wire, and_parts, ap, arith, edge_of, edges_of, has, has-filter, inl, inr, is_due, is_set, knows, ports_picture, state-made, sym, true, updated, view, ℕ, ◌+◌, ◌/◌, ◌%◌, ◌<◌, ◌^◌, ◌||◌, ◌∙◌, ◌≡◌}
 use Rattle.node_ports.proofs.Shown.{AreUpdated}
 use Rattle.node_ports.specs.Ports.{IsMerged, PortKnown, is_updated_port}
 use Rattle.core_laws.specs.Steps.{bit_at_end}
@@ -32,12 +32,9 @@ high-bits w o lt = low-bits 16 (w / 2 ^ 32) o lt
 -- the word names the port at this end of the wire exactly where the updated ports have it
 names-port : (nodes : ℕ) (w : Wire) (n x : ℕ) (p : Port) → wire_ok nodes w ≡ true → IsEnd w n p
     → (is_set x 60 || is_set x (bit_at_end n (Some w))) ≡ is_updated_port p (updated_of x)
-names-port nodes w n x (Input i) ok at = ap (λ b. is_set x 60 || b == 1)
-    (ap (bit_at x) (at-end nodes w ok true n at.0 ∙ at.1)
-    ∙ sym (low-bits 32 x i (grind (arith, ok, at.1))))
-names-port nodes w n x (Output o) ok at = ap (λ b. is_set x 60 || b == 1)
-    (ap (bit_at x) (at-end nodes w ok false n at.0 ∙ ap (λ o. 32 + o) at.1)
-    ∙ sym (high-bits x o (grind (arith, ok, at.1))))
+names-port nodes w n x (Input i) ok at =
+    grind (arith, at-end nodes w ok true n at.0, low-bits 32 x i (grind (arith, ok, at.1)))
+names-port nodes w n x (Output o) ok at = grind (arith, at-end, high-bits)
 
 -- ---- the step
 
@@ -63,13 +60,7 @@ module _ {t : Identity} (p : NodePorts) {old new : NodeSeat} {s : Step} {u : Upd
       ∙ q))
 
   wire-sound : (q : Port) (k : PortKnown c q) → wire_ok b.core.sizes.nodes k.wire ≡ true
-  wire-sound q k = let e = edge_of c q in
-      let known : knows e (node_at b.core n).seen ≡ true =
-      ap (λ (x : NodeView). knows e x.state.seen) m.makes.was ∙ k.known in
-      let laws = m.makes.holds.laws.edges in
-      (laws.each e (laws.known n e known)).wired.sound k.wire
-      (sym (known-wire b n e m.makes.holds known)
-      ∙ (ap (λ (x : NodeView). (end_of_view x e).wire) m.makes.was ∙ k.is))
+  wire-sound q k = grind (arith, known-wire)
 
   pub taken-updated : AreUpdated c v (view new).state.unlooked
   taken-updated = record {

@@ -1,14 +1,11 @@
 -- What a visit of a node does, and what it leaves of the node's cell.
-use Rattle.node_cells.proofs.Imports.{BoxPicture, Identity, IsSeatOf, NodeCell, None, Option, Some, subst, sym, ◌≡◌}
-use Rattle.exec_laws.specs.declared.edges.DueCall.TheVariants as call
+use Rattle.node_cells.proofs.Imports.{arith, BoxPicture, Identity, IsSeatOf, NodeCell, Option, Some, subst, sym, ◌≡◌}
 use Rattle.exec_laws.specs.declared.edges.NodeStatus.{NodeStatus}
-use Rattle.exec_laws.specs.declared.edges.NodeStatus.TheVariants as node
 use Rattle.node_cells.proofs.QueueLaws.{turns-offer}
 use Rattle.node_cells.specs.Stops.{StopHolds}
 use Rattle.node_cells.specs.Stored.{StoredAs}
 use Rattle.node_cells.specs.Visits.{LiesAs, Resumes, Visits, VisitsFrom, resumes_once, resumes_turns}
 use Rattle.node_cells.specs.declared.stop_cause.StopCause.{StopCause}
-use Rattle.node_cells.specs.declared.stop_cause.StopCause.TheVariants as cause
 use Rattle.task_queue.proofs.KeptNumbers.{offers-none}
 use Rattle.task_queue.specs.Tasks.{OffersNumbers}
 use Rattle.task_queue.specs.declared.queue.TaskQueue.{TaskQueue}
@@ -16,27 +13,16 @@ use Rattle.task_queue.specs.declared.tasks.WorkerTasks.{WorkerTasks}
 
 module _ {P : Type 0} (seen : P → BoxPicture) (t : Identity) where
   pub seat-as : (s : NodeStatus) (c : NodeCell P) → StoredAs seen t s c → IsSeatOf t c.seat
-  seat-as node.Unborn c h = h.seat
-  seat-as node.Due c h = h.cell.seat
-  seat-as node.Resting c h = h.cell.seat
-  seat-as (node.AtWork call.Work) c h = absurd h
-  seat-as (node.AtWork call.Schedule) c h = h.0.cell.seat
-  seat-as (node.AtWork call.Expand) c h = h.0.cell.seat
-  seat-as node.Over c h = h.cell.seat
+  seat-as s c h = grind arith
 
   -- the seat of a cell is one of the table's, whatever stopped the run at it
   pub lies-seat : (o : Option StopCause) (c : NodeCell P) → LiesAs seen t o c → IsSeatOf t c.seat
-  lies-seat None c h = seat-as c.mark.state c h
-  lies-seat (Some (cause.Fault f)) c h = h.seat
-  lies-seat (Some (cause.Flaw f)) c h = h.seat
-  lies-seat (Some cause.Memory) c h = h
+  lies-seat o c h = grind (arith, seat-as)
 
   -- what stopped the run at a cell holds of it
   pub lies-stop : (s : StopCause) (c : NodeCell P) → LiesAs seen t (Some s) c
       → StopHolds seen s c
-  lies-stop (cause.Fault f) c h = h.holds
-  lies-stop (cause.Flaw f) c h = h.holds
-  lies-stop cause.Memory c h = tt
+  lies-stop s c h = grind arith
 
   module _ (q : TaskQueue) (o : Option StopCause) (old new : NodeCell P)
       (before after : WorkerTasks) where

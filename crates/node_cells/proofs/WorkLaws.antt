@@ -1,12 +1,11 @@
 -- The processor works, or fetches.
-use Rattle.node_cells.proofs.Imports.{Identity, BoxHolds, BoxPicture, MarkHolds, NodeCell, CellNodeHolds, NodeMark, PortsPicture, ap, cell_ports, false, is_over_stage, is_unborn_stage, length, pulled_by, pushed_by, rules, subst, sym, true, ℕ, ◌∙◌, ◌≡◌, ◌≢◌}
+use Rattle.node_cells.proofs.Imports.{arith, Identity, BoxHolds, BoxPicture, MarkHolds, NodeCell, CellNodeHolds, NodeMark, PortsPicture, cell_ports, length, pulled_by, pushed_by, rules, subst, sym, ℕ, ◌∙◌, ◌≡◌, ◌≢◌}
 use Rattle.node_cells.specs.Turns.{AtHome, IsAtWork, IsDue, Wakes, WakesTo, call_after}
 use Rattle.exec_laws.specs.Names.{Acts, MayCall}
 use Rattle.exec_laws.specs.declared.edges.DueCall.{DueCall}
 use Rattle.exec_laws.specs.declared.edges.DueCall.TheVariants as call
 use Rattle.exec_laws.specs.declared.edges.NodeStatus.TheVariants as node
 use Rattle.proc_api.specs.declared.status.Wake.{Wake}
-use Rattle.proc_api.specs.declared.status.Wake.TheVariants as wake
 use Rattle.proc_api.proofs.Follows.{follows-same}
 
 acts-box : (m n : ℕ) (p q : BoxPicture) (c : PortsPicture) → Acts p q
@@ -30,21 +29,12 @@ not-over seen t d c h o = let z : node.AtWork d ≡ node.Over = sym h.at_work �
 
 due-mark : (k : NodeMark) (c : PortsPicture) (q : BoxPicture) → k.state ≡ node.Due
     → MarkHolds k.state k.last (length c.inputs) (length c.outputs) q c.view
-due-mark k c q due = subst (λ s. MarkHolds s k.last (length c.inputs) (length c.outputs) q c.view)
-    (sym due) tt
+due-mark k c q due = grind arith
 
 called-due : {P : Type 0} (seen : P → BoxPicture) (t : Identity) (d : DueCall) (c : NodeCell P)
     (q : P) (k : NodeMark) → IsAtWork seen t d c → CellNodeHolds (seen q) k (cell_ports c)
     → k.state ≡ node.Due → IsDue seen t (record c { processor = q; mark = k })
-called-due seen t d c q k h node due = record {
-  holds = record {
-    cell = record { seat = h.holds.cell.seat; node = node };
-    turn = h.holds.turn;
-    stage = h.holds.stage;
-  };
-  quiet = h.quiet;
-  due = due;
-}
+called-due seen t d c q k h node due = grind arith
 
 pub worked-due : {P : Type 0} (seen : P → BoxPicture) (t : Identity) (c : NodeCell P) (q : P)
     (k : NodeMark) → IsAtWork seen t call.Work c → Acts (seen c.processor) (seen q)
@@ -54,26 +44,12 @@ worked-due seen t c q k h a due = called-due seen t call.Work c q k h
     (not-over seen t call.Work c h) (due-mark k (cell_ports c) (seen q) due)) due
 
 may-after : (a : Wake) (p q : BoxPicture) → Wakes a p q → MayCall (call_after a) q
-may-after wake.Ready p q w = search (rules, w)
-may-after wake.Later p q w = search (rules, w)
+may-after a p q w = grind arith
 
 -- a node that is due a call may go home
 pub at-work-home : {P : Type 0} (seen : P → BoxPicture) (t : Identity) (d : DueCall)
     (c : NodeCell P) → IsAtWork seen t d c → AtHome seen t c
-at-work-home seen t d c h = record {
-  cell = h.holds.cell;
-  home = record {
-    actions = h.quiet;
-    tokens = h.holds.turn.tokens;
-    owes = h.holds.turn.owes;
-    waits = λ _. h.holds.turn.held;
-    idle = λ e. absurd (let z : node.AtWork d ≡ node.Resting = sym h.at_work ∙ e in cc);
-    begun = λ e. absurd (let z : node.AtWork d ≡ node.Resting = sym h.at_work ∙ e in cc);
-    looked = λ e. absurd (let z : node.AtWork d ≡ node.Resting = sym h.at_work ∙ e in cc);
-    over = λ o. absurd (let f : false ≡ true = sym (ap is_over_stage h.holds.stage) ∙ o in cc);
-    unborn = λ o. absurd (let f : false ≡ true = sym (ap is_unborn_stage h.holds.stage) ∙ o in cc);
-  };
-}
+at-work-home seen t d c h = grind arith
 
 module _ {P : Type 0} (seen : P → BoxPicture) (t : Identity) (c : NodeCell P) (q : P)
     (k : NodeMark) (h : IsAtWork seen t call.Schedule c) (a : Wake)
@@ -104,7 +80,4 @@ pub wake_keeps_turn : {P : Type 0} (seen : P → BoxPicture) (t : Identity) (c :
     (k : NodeMark) → IsAtWork seen t call.Schedule c → (a : Wake)
     → Wakes a (seen c.processor) (seen q) → k.state ≡ node.AtWork (call_after a)
     → WakesTo seen t a (record c { processor = q; mark = k })
-wake_keeps_turn seen t c q k h wake.Ready w at = still-at-work seen t c q k h wake.Ready w at
-wake_keeps_turn seen t c q k h wake.Later w at =
-    let still = still-at-work seen t c q k h wake.Later w at in
-    (at-work-home seen t call.Schedule _ still, still)
+wake_keeps_turn seen t c q k h a w at = grind (arith, still-at-work, at-work-home)

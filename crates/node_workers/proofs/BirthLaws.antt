@@ -1,28 +1,6 @@
 -- The cells of all new nodes of a growth.
-use Rattle.std.proofs.Common.{All, Bool, List, None, Option, Some, [], ap, append_assoc, arith, cond, eq-eqb, false, get_or, length, map, nat_lt, refl, reverse, subst, suc, sym, true, zero, ℕ, ◌+◌, ◌++◌, ◌<◌, ◌==◌, ◌∙◌, ◌∷◌, ◌≡◌, ◌≢◌, ◌≤◌, inl, inr}
-use Rattle.std.proofs.lemmas.Bool.{cases_eq, or_parts}
-use Rattle.std.proofs.lemmas.List.{map-append, reverse-append}
-use Rattle.std.specs.List.{list_any}
-use mathlib.Core.Option.{some, some-injective, some-ne-none}
-use lib.ListN.{get_elem?}
-use Rattle.exec_laws.specs.Births.{HasForm, form_at}
-use Rattle.exec_laws.specs.Prelude.{BoxPicture}
-use Rattle.node_cells.specs.declared.cell.NodeCell.{NodeCell}
-use Rattle.node_cells.specs.declared.stop_cause.StopCause.{StopCause}
-use Rattle.node_cells.specs.declared.stop_cause.StopCause.TheVariants as cause
+use Rattle.node_workers.proofs.Imports.{All, AllFit, AreLost, AwaitGrowth, AwaitsGrowth, BoxPicture, CellFits, CellNote, FitsOwnPlace, GrowNode, HasForm, HasNewOutputs, HasWires, IsGrowthOf, IsLost, IsLostThere, IsNewNode, List, Memory, NamedCell, Names, NodeCell, None, NotedStep, Option, Some, StopCause, Wire, [], ap, append_assoc, arith, cases_eq, eq-eqb, false, form_at, get_elem?, get_or, hit, hit_other, hit_same, length, list_any, map, map-append, number_of, once_below, or_parts, place_at, refl, reverse, reverse-append, some, some-injective, some-ne-none, spec_form, subst, suc, sym, times, times-append, zero, ℕ, ◌++◌, ◌+◌, ◌<◌, ◌==◌, ◌∙◌, ◌∷◌, ◌≡◌, ◌≢◌, ◌≤◌}
 use Rattle.node_workers.proofs.NewNodeLaws.{lost-box, lost-new, with-outputs}
-use Rattle.node_workers.specs.Births.{AreLost, AwaitGrowth, FitsOwnPlace, IsGrowthOf, IsLostThere, number_of, place_at}
-use Rattle.node_workers.specs.Named.{CellFits}
-use Rattle.node_workers.specs.Names.{Names}
-use Rattle.node_workers.specs.NewNodes.{AwaitsGrowth, HasNewOutputs, HasWires, IsLost, IsNewNode, NotedStep}
-use Rattle.node_workers.specs.declared.named_cell.CellNote.{CellNote}
-use Rattle.node_workers.specs.declared.named_cell.NamedCell.{NamedCell}
-use Rattle.port_word.specs.declared.flags.Wire.{Wire}
-use Rattle.proc_api.specs.Forms.{spec_form}
-use Rattle.proc_api.specs.declared.growth.GrowNode.{GrowNode}
-use Rattle.task_queue.proofs.Counts.{hit_other, hit_same, times-append}
-use Rattle.task_queue.specs.Numbers.{hit, once_below, times}
-use Rattle.task_queue.specs.Values.{AllFit}
 
 -- ---- lists
 
@@ -54,20 +32,14 @@ all-own f Q places xs h k d lt = let a = h k (get_or xs k d) (at-place xs k d lt
 pub let-go : (n : ℕ) (old now : List ℕ) → times n old ≡ 1 → times n now ≡ 0
     → ((m : ℕ) → m ≢ n → times m now ≡ times m old) → (q : ℕ)
     → times q now + hit q n ≡ times q old
-let-go n old now one none others q = elim (cases_eq q n) [
-  | inl is ↦ subst (λ m. times m now + hit m n ≡ times m old) (sym is)
-      (let h = hit_same n in omega (arith, one, none, h))
-  | inr ne ↦ let h = hit_other q n ne in let o = others q ne in omega (arith, h, o)
-]
+let-go n old now one none others q = grind (arith, cases_eq, hit_same, hit_other)
 
 -- a number that isn't found in a list doesn't stand in it
 pub not-among : (n : ℕ) (xs : List ℕ) → list_any (λ (k : ℕ). k == n) xs ≡ false → times n xs ≡ 0
 not-among n [] h = refl
 not-among n (x ∷ xs) h = let parts = or_parts (x == n) (list_any (λ (k : ℕ). k == n) xs) h in
-    let more = not-among n xs parts.1 in
-    let other = hit_other n x (λ (e : n ≡ x). let t = eq-eqb x n (sym e) in
-    let f = parts.0 in cc) in
-    omega (arith, more, other)
+    let more = not-among n xs parts.1 in let other = hit_other n x (λ (e : n ≡ x).
+    let t = eq-eqb x n (sym e) in let f = parts.0 in cc) in omega (arith, more, other)
 
 -- a list's numbers, with one more
 pub times-more : {V : Type 0} (f : V → ℕ) (q : ℕ) (xs all : List V) (y : V) → all ≡ xs ++ y ∷ []
@@ -81,13 +53,7 @@ pub last-once : {V : Type 0} (f : V → ℕ) (xs all : List V) (y : V) (old : Li
     → all ≡ xs ++ y ∷ [] → ((q : ℕ) → times q (map f all) ≤ times q old)
     → ((q : ℕ) → times q old ≤ once_below q c) → times (f y) old ≡ 1
 last-once f xs all y old c is holds once =
-    let more = times-more f (f y) xs all y is in let h = hit_same (f y) in
-    let i = holds (f y) in let o = once (f y) in let most = one (nat_lt (f y) c) in
-    omega (arith, more, h, i, o, most)
-  where
-    one : (b : Bool) → cond b 1 0 ≤ 1
-    one true = omega arith
-    one false = omega arith
+    grind (arith, times-more f (f y) xs all y is, hit_same (f y))
 
 -- the last of values is put home: its number stood in the list that the seat held
 pub put-last : {V : Type 0} (f : V → ℕ) (xs all : List V) (y : V) (old now : List ℕ)
@@ -102,17 +68,14 @@ put-last f xs all y old now is holds one gone others q =
 -- numbers of values that are taken from the end, the last one first
 pub last-first : {V : Type 0} (f : V → ℕ) (xs all : List V) (y : V) (ns : List ℕ)
     → all ≡ xs ++ y ∷ [] → (ns ++ f y ∷ []) ++ reverse (map f xs) ≡ ns ++ reverse (map f all)
-last-first f xs all y ns is = append_assoc ns (f y ∷ []) (reverse (map f xs))
-    ∙ ap (λ (l : List ℕ). ns ++ l) (sym (ap (λ l. reverse (map f l)) is
-    ∙ (ap reverse (map-append f xs (y ∷ [])) ∙ reverse-append (map f xs) (f y ∷ []))))
+last-first f xs all y ns is = grind (arith, append_assoc, reverse, map-append, reverse-append)
 
 numbers-are : {V : Type 0} (f : V → ℕ) (places : List ℕ) (xs : List V)
     → AllFit (λ v k. f v ≡ place_at places k) xs → length xs ≡ length places → map f xs ≡ places
 numbers-are f [] [] h many = refl
 numbers-are f [] (x ∷ xs) h many = absurd (omega (arith, many))
 numbers-are f (p ∷ places) [] h many = absurd (omega (arith, many))
-numbers-are f (p ∷ places) (x ∷ xs) h many =
-    let e = h 0 x refl in
+numbers-are f (p ∷ places) (x ∷ xs) h many = let e = h 0 x refl in
     let rest = numbers-are f places xs (λ k v at. h (suc k) v at) (omega (arith, many)) in cc
 
 -- ---- cells
@@ -120,20 +83,12 @@ numbers-are f (p ∷ places) (x ∷ xs) h many =
 -- one for which memory is wanting fits as it was left
 pub lost-fits : {P : Type 0} (x : Names) (seen : P → BoxPicture) (n : ℕ) (c : NodeCell P)
     (o : Option StopCause) (own : CellNote)
-    → CellFits x seen n c o own → CellFits x seen n c (Some cause.Memory) own
-lost-fits x seen n c o own h = record {
-  seat = h.seat;
-  number = h.number;
-  note = h.note;
-  stands = λ ne. absurd (ne refl);
-  box = lost-box h.box;
-  lies = h.seat;
-}
+    → CellFits x seen n c o own → CellFits x seen n c (Some Memory) own
+lost-fits x seen n c o own h = grind (arith, lost-box h.box)
 
 module _ {P J : Type 0} (x : Names) (seen : P → BoxPicture) where
   pub lost-waiting : (n : ℕ) (d : NamedCell P J) → AwaitsGrowth x seen n d → IsLost x seen n d
-  lost-waiting n d h = subst (λ own. CellFits x seen n d.cell (Some cause.Memory) own) (sym h.bare)
-      (lost-fits x seen n d.cell None _ h.fits)
+  lost-waiting n d h = rw h.bare (lost-fits x seen n d.cell None _ h.fits)
 
   pub waiting-lost : (places : List ℕ) (cells : List (NamedCell P J))
       → AwaitGrowth x seen places cells → AreLost x seen places cells
@@ -147,9 +102,8 @@ module _ {P J : Type 0} (x : Names) (seen : P → BoxPicture) where
   pub lost-given : {g : NotedStep} {wires : List Wire} {first k n : ℕ} {d : NamedCell P J}
       → HasWires x g wires first → IsNewNode g k n → HasNewOutputs x seen g n d
       → IsLost x seen n d
-  lost-given {g} {wires} {first} {k} {n} {d} wired new h =
-      lost-new wired new h.unborn h.fits h.knows d.cell (with-outputs h).seat
-      h.got.gains.gains.number (ap seen h.processor)
+  lost-given {g} {wires} {first} {k} {n} {d} wired new h = lost-new wired new h.unborn h.fits
+      h.knows d.cell (with-outputs h).seat h.got.gains.gains.number (ap seen h.processor)
 
   -- all fit by the places of the new nodes, and so by their own numbers
   module _ (o : NamedCell P J → Option StopCause) (places : List ℕ) (cells : List (NamedCell P J))
@@ -167,22 +121,19 @@ module _ {P J : Type 0} (x : Names) (seen : P → BoxPicture) where
       → AwaitGrowth x seen places cells → length cells ≡ length places
       → map number_of cells ≡ places
   waiting-numbers places cells h =
-      all-numbers (λ _. Some cause.Memory) places cells (waiting-lost places cells h)
+      all-numbers (λ _. Some Memory) places cells (waiting-lost places cells h)
 
   pub waiting-there : (places : List ℕ) (cells : List (NamedCell P J))
       → AwaitGrowth x seen places cells → All (IsLostThere x seen) cells
   waiting-there places cells h =
-      all-there (λ _. Some cause.Memory) places cells (waiting-lost places cells h)
+      all-there (λ _. Some Memory) places cells (waiting-lost places cells h)
 
 -- ---- new nodes of a growth
 
 pub new-node : {x : Names} {g : NotedStep} {wires : List Wire} {first : ℕ} {places : List ℕ}
     → IsGrowthOf x g wires first places → (k : ℕ) → k < length places
     → IsNewNode g k (place_at places k)
-new-node h k lt = record {
-  within = subst (λ (l : List ℕ). k < length l) h.places_are lt;
-  is = ap (λ (l : List ℕ). place_at l k) (sym h.places_are);
-}
+new-node h k lt = grind arith
 
 pub has-form : (nodes : List GrowNode) (k : ℕ) (n : GrowNode) → get_elem? nodes k ≡ some n
     → HasForm (Some n.spec) (form_at (map (λ (m : GrowNode). spec_form m.spec) nodes) k)

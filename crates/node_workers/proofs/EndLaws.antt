@@ -1,31 +1,5 @@
 -- All cells, before the run and after it.
-use Rattle.std.proofs.Common.{List, None, [], ap, length, map, refl, slice_index_or, subst, suc, sym, zero, ℕ, ◌∙◌, ◌∷◌, ◌≡◌}
-use mathlib.Core.Option.{some, some-injective, some-ne-none}
-use lib.ListN.{get_elem?}
-use Rattle.atomic_table.proofs.Lists.{at_map}
-use Rattle.atomic_table.specs.Seated.{TableId}
-use Rattle.exec_laws.specs.Births.{Birth}
-use Rattle.exec_laws.specs.Prelude.{BoxPicture, Reserve}
-use Rattle.exec_table.specs.Seats.{Identity}
-use Rattle.node_births.proofs.StandLaws.{left-itself, stands-new}
-use Rattle.node_births.specs.NotedBirths.{births_by}
-use Rattle.node_births.specs.OwnBirths.{IsBoxLeft, StandsAmong}
-use Rattle.node_cells.specs.Cells.{cell_ports}
-use Rattle.node_cells.specs.Visits.{LiesAs}
-use Rattle.node_cells.specs.declared.cell.NodeCell.{NodeCell}
-use Rattle.node_cells.proofs.VisitLaws.{seat-as}
-use Rattle.node_workers.specs.Ended.{AreNamed, AreStored, named_by, no_node}
-use Rattle.node_births.specs.Left.{NamedNode, reserve_form}
-use Rattle.node_workers.specs.Named.{CellFits, IsNoteFor, births_in, first_edge_in, named_node}
-use Rattle.node_workers.specs.Names.{Names}
-use Rattle.node_workers.specs.Notes.{HaveFirstNotes, IsFirstNote}
-use Rattle.node_workers.specs.Rooms.{as_ended, as_named, node_cell}
-use Rattle.node_workers.specs.declared.named_cell.CellNote.{CellNote}
-use Rattle.node_workers.specs.declared.named_cell.CellNote.TheVariants as note
-use Rattle.node_workers.specs.declared.named_cell.EndedCell.{EndedCell}
-use Rattle.node_workers.specs.declared.named_cell.NamedCell.{NamedCell}
-use Rattle.task_queue.specs.Values.{AllFit}
-unfoldable use Rattle.proc_api.specs.Reserves.{reserve_at}
+use Rattle.node_workers.proofs.Imports.{AllFit, AreNamed, AreStored, Bare, Birth, BoxPicture, CellFits, CellNote, Copied, EndedCell, HaveFirstNotes, Identity, IsBoxLeft, IsFirstNote, IsNoteFor, List, NamedCell, NamedNode, Names, NodeCell, None, Own, Reserve, StandsAmong, TableId, [], ap, as_ended, as_named, at_map, births_by, births_in, cell_ports, first_edge_in, get_elem?, left-itself, length, map, named_by, named_node, no_node, node_cell, refl, reserve_at, reserve_form, seat-as, slice_index_or, some, some-injective, some-ne-none, stands-new, subst, suc, sym, zero, ℕ, ◌∙◌, ◌∷◌, ◌≡◌}
 
 fit-map : {A B : Type 0} (f : A → B) (Q : B → ℕ → Type 0) (xs : List A)
     → ((n : ℕ) (a : A) → get_elem? xs n ≡ some a → Q (f a) n) → AllFit Q (map f xs)
@@ -51,16 +25,16 @@ node_cells-named J (c ∷ cs) = ap (λ l. c ∷ l) (node_cells-named J cs)
 module _ (notes : TableId) (reserves : List Reserve) (n : ℕ) where
   note-for : (x : CellNote) → IsFirstNote notes reserves (length reserves) n x
       → IsNoteFor notes reserves n x
-  note-for note.Bare h = h
-  note-for (note.Own x) h = (h.0, h.1, h.2)
-  note-for (note.Copied x) h = absurd h
+  note-for Bare h = h
+  note-for (Own x) h = (h.0, h.1, h.2)
+  note-for (Copied x) h = absurd h
 
   no-births : (x : CellNote) → IsFirstNote notes reserves (length reserves) n x
       → births_in reserves x ≡ []
   unfolding reserve_at
-  no-births note.Bare h = refl
-  no-births (note.Own x) h = ap (births_by (reserve_at reserves x.reserve).node) h.3
-  no-births (note.Copied x) h = absurd h
+  no-births Bare h = refl
+  no-births (Own x) h = ap (births_by (reserve_at reserves x.reserve).node) h.3
+  no-births (Copied x) h = absurd h
 
 module _ {P : Type 0} (seen : P → BoxPicture) where
   -- each cell is what it is named
@@ -80,25 +54,20 @@ module _ {P : Type 0} (seen : P → BoxPicture) where
       let here : get_elem? cells n ≡ some c =
       subst (λ l. get_elem? l n ≡ some c) first.same (at_map node_cell named n d at) in
       let none = sym (no-births x.notes z.reserves n d.note own.note_is) in
-      let stored = h.stored n c here in
-      let seat = seat-as seen x.identity c.mark.state c stored in record {
+      let seat = seat-as seen x.identity c.mark.state c (h.stored n c here) in record {
         seat = seat;
         number = h.numbers n c here;
         note = note-for x.notes z.reserves n d.note own.note_is;
-        stands = λ _. subst (λ (m : NamedNode). StandsAmong z.wires
-            (first_edge_in z.reserves d.note) (births_in z.reserves d.note) n m.reserve
-            (cell_ports c) (reserve_form c.reserve) (seen c.processor)) (sym (same n c here))
-            (subst (λ (b : List Birth). StandsAmong z.wires (first_edge_in z.reserves d.note) b n
-            (reserve_form c.reserve) (cell_ports c) (reserve_form c.reserve) (seen c.processor))
-            none (stands-new z.wires _ n (reserve_form c.reserve) (cell_ports c)
-            (seen c.processor) (sym seat.number ∙ h.numbers n c here) (h.places n c here)));
-        box = subst (λ o. IsBoxLeft o (births_in z.reserves d.note) n (x.node n).box
-            (seen c.processor)) (sym own.going)
-            (subst (λ (m : NamedNode). IsBoxLeft None (births_in z.reserves d.note) n m.box
-            (seen c.processor)) (sym (same n c here))
-            (subst (λ (b : List Birth). IsBoxLeft None b n (seen c.processor) (seen c.processor))
-            none (left-itself n (seen c.processor))));
-        lies = subst (λ o. LiesAs seen x.identity o c) (sym own.going) stored;
+        stands = λ _. rw ((same n c here)) (subst (λ (b : List Birth). StandsAmong z.wires
+            (first_edge_in z.reserves d.note) b n (reserve_form c.reserve) (cell_ports c)
+            (reserve_form c.reserve) (seen c.processor)) none (stands-new z.wires _ n (reserve_form
+            c.reserve) (cell_ports c) (seen c.processor) (sym seat.number ∙ h.numbers n c here)
+            (h.places n c here)));
+        box = subst (λ o. IsBoxLeft o (births_in z.reserves d.note) n (x.node n).box (seen
+            c.processor)) (sym own.going) (rw ((same n c here)) (subst (λ (b : List Birth).
+            IsBoxLeft None b n (seen c.processor) (seen c.processor)) none (left-itself n (seen
+            c.processor))));
+        lies = rw own.going (h.stored n c here);
       }
 
   -- so do the cells that a run is to begin with
@@ -111,8 +80,7 @@ module _ {P : Type 0} (seen : P → BoxPicture) where
       → AllFit (λ (d : NamedCell P J) n. CellFits x seen n d.cell d.stopped d.note) named
   named-fit {J} x t notes reserves cells named same noted of stored are first =
       stored-fit x cells named (subst (λ t. AreStored seen t cells) same stored) are
-      (subst (λ (r : List Reserve). HaveFirstNotes x.notes r (length r) cells named) of
-      (subst (λ i. HaveFirstNotes i reserves (length reserves) cells named) noted first))
+      (rw of at (subst (λ i. HaveFirstNotes i reserves (length reserves) cells named) noted first))
 
   -- what lay on the shelf is as it is to end
   pub cleared-each : {J : Type 0} (x : Names) (cells : List (NamedCell P J))
@@ -120,6 +88,5 @@ module _ {P : Type 0} (seen : P → BoxPicture) where
       → AllFit (λ d n. CellFits x seen n d.cell d.stopped d.note) cells
       → (n : ℕ) (d : EndedCell P) → get_elem? ended n ≡ some d
       → CellFits x seen n d.cell d.stopped d.note
-  cleared-each x cells ended is fit n d at =
-      fit-map as_ended (λ d n. CellFits x seen n d.cell d.stopped d.note) cells fit n d
-      (subst (λ l. get_elem? l n ≡ some d) is at)
+  cleared-each x cells ended is fit n d at = fit-map as_ended (λ d n. CellFits x seen n d.cell
+      d.stopped d.note) cells fit n d (subst (λ l. get_elem? l n ≡ some d) is at)

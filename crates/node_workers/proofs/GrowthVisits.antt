@@ -1,34 +1,6 @@
 -- The visit of a node by which the graph is to grow.
-use Rattle.std.proofs.Common.{List, None, Option, Some, ap, arith, map, refl, subst, sym, ℕ, inl, inr, ◌∙◌, ◌≡◌, ◌≤◌}
-use Rattle.exec_laws.proofs.Nodes.{not-blank}
-use Rattle.exec_laws.specs.Prelude.{BoxPicture}
-use Rattle.exec_laws.specs.declared.edges.DueCall.TheVariants as call
-use Rattle.exec_laws.specs.declared.edges.NodeStatus.{NodeStatus}
-use Rattle.exec_laws.specs.declared.edges.NodeStatus.TheVariants as node
-use Rattle.exec_table.specs.Seats.{Identity}
-use Rattle.growth_notes.specs.Notes.{noted}
-use Rattle.growth_notes.specs.declared.notes.GrowthNote.{GrowthNote}
-use Rattle.node_births.specs.declared.noted_growth.NotedGrowth.{NotedGrowth}
-use Rattle.node_cells.specs.Stored.{StoredAs}
-use Rattle.node_cells.specs.Turns.{IsAtWork, IsStopped, RunEndHolds, Stays}
-use Rattle.node_cells.specs.Visits.{LiesAs}
-use Rattle.node_cells.specs.declared.cell.NodeCell.{NodeCell}
-use Rattle.node_cells.specs.declared.node_run.RunEnd.{RunEnd}
-use Rattle.node_cells.specs.declared.node_run.RunEnd.TheVariants as run
-use Rattle.node_cells.specs.declared.stop_cause.StopCause.{StopCause}
-use Rattle.node_cells.specs.declared.stop_cause.StopCause.TheVariants as cause
+use Rattle.node_workers.proofs.Imports.{AtWork, BoxPicture, CellFits, CellNote, Expand, FlawlessGrowth, GrowthNote, HasGrown, HasOwnOutputs, HoldsMore, Identity, IsAtWork, IsGrowthOf, IsSameSeat, IsStopped, KeepsPlaces, LiesAs, List, NamedCell, Names, NodeCell, NodeStatus, None, NotedGrowth, Option, RunEnd, RunEndHolds, ShelfSeat, Some, Stays, StopCause, StoredAs, Wire, ap, arith, held, map, not-blank, noted, number_of, refl, step_after, subst, times, ℕ, ◌∙◌, ◌≡◌, ◌≤◌}
 use Rattle.node_workers.proofs.VisitLaws.{fits-knows, turns-fit}
-use Rattle.node_workers.specs.Births.{HasGrown, HoldsMore, IsGrowthOf, KeepsPlaces, number_of}
-use Rattle.node_workers.specs.Growths.{HasOwnOutputs, step_after}
-use Rattle.node_workers.specs.Named.{CellFits}
-use Rattle.node_workers.specs.Names.{Names}
-use Rattle.node_workers.specs.declared.growth.FlawlessGrowth.{FlawlessGrowth}
-use Rattle.node_workers.specs.declared.named_cell.CellNote.{CellNote}
-use Rattle.node_workers.specs.declared.named_cell.NamedCell.{NamedCell}
-use Rattle.port_word.specs.declared.flags.Wire.{Wire}
-use Rattle.task_queue.specs.Numbers.{times}
-use Rattle.task_queue.specs.Shelves.{IsSameSeat, held}
-use Rattle.task_queue.specs.declared.seat.ShelfSeat.{ShelfSeat}
 
 -- ---- the seat of the shelf
 
@@ -42,11 +14,7 @@ module _ {P J : Type 0} (cells last : List (NamedCell P J))
   -- and no more once they were put back
   pub keeps-taken : (new : ShelfSeat (NamedCell P J)) → IsSameSeat old mid
       → HoldsMore last new mid → IsSameSeat mid new → KeepsPlaces old new
-  keeps-taken new s less t = record {
-    same = (t.0 ∙ s.0, t.1 ∙ s.1);
-    kept = λ q. let h = more q in let k = less q in let e = ap (times q) same in
-        omega (arith, h, k, e);
-  }
+  keeps-taken new s less t = grind arith
 
 pub keeps-itself : {P J : Type 0} (s : ShelfSeat (NamedCell P J)) → KeepsPlaces s s
 keeps-itself s = record { same = (refl, refl); kept = λ q. refl }
@@ -81,30 +49,23 @@ growth-of h = record { wired = h.wired; places_are = refl }
 
 module _ {P : Type 0} (seen : P → BoxPicture) (t : Identity) where
   -- a stored cell at work so is due to grow
-  pub stored-expand : (c : NodeCell P) → c.mark.state ≡ node.AtWork call.Expand
-      → LiesAs seen t None c → IsAtWork seen t call.Expand c
+  pub stored-expand : (c : NodeCell P) → c.mark.state ≡ AtWork Expand
+      → LiesAs seen t None c → IsAtWork seen t Expand c
   stored-expand c is h = (subst (λ (s : NodeStatus). StoredAs seen t s c) is h).1
 
   -- a node's run leaves its cell so that it may be stored
   pub run-lies : (e : RunEnd) (c : NodeCell P) → RunEndHolds seen t e c → LiesAs seen t None c
-  run-lies run.Rests c h = elim h.1 [
-    | inl is ↦ subst (λ (s : NodeStatus). StoredAs seen t s c) (sym is) h.0
-    | inr is ↦ subst (λ (s : NodeStatus). StoredAs seen t s c) (sym is) h.0
-  ]
-  run-lies run.Waits c h = subst (λ (s : NodeStatus). StoredAs seen t s c) (sym h.1.at_work) h
-  run-lies run.Grows c h = subst (λ (s : NodeStatus). StoredAs seen t s c) (sym h.1.at_work) h
+  run-lies e c h = grind arith
 
   pub stopped-lies : (s : StopCause) (c : NodeCell P) → IsStopped seen t s c
       → LiesAs seen t (Some s) c
-  stopped-lies (cause.Fault f) c h = h
-  stopped-lies (cause.Flaw f) c h = h
-  stopped-lies cause.Memory c h = h.seat
+  stopped-lies s c h = grind arith
 
 module _ {P : Type 0} (seen : P → BoxPicture) (x : Names) (n : ℕ) (a b : NodeCell P)
     (own : CellNote) where
   -- a node that is stopped when its processor is asked fits its place
   pub asked-fits : (s : StopCause) → CellFits x seen n a None own
-      → IsAtWork seen x.identity call.Expand a → Stays seen (Some s) a b
+      → IsAtWork seen x.identity Expand a → Stays seen (Some s) a b
       → IsStopped seen x.identity s b → CellFits x seen n b (Some s) own
   asked-fits s h at stays stop = turns-fit seen x n a b (Some s) own (fits-knows seen x n a own h)
       stays (λ none. absurd (not-blank (seen a.processor).spec
@@ -113,6 +74,5 @@ module _ {P : Type 0} (seen : P → BoxPicture) (x : Names) (n : ℕ) (a b : Nod
   -- so does one that grew, after turns
   pub grown-fits : (o : Option StopCause) → HasGrown x seen n a own → Stays seen o a b
       → LiesAs seen x.identity o b → CellFits x seen n b o own
-  grown-fits o h stays lies = turns-fit seen x n a b o own h.knows stays
-      (λ none. absurd (not-blank (seen a.processor).spec
-      h.due.holds.cell.node.box.running.loaded none)) lies
+  grown-fits o h stays lies = turns-fit seen x n a b o own h.knows stays (λ none. absurd (not-blank
+      (seen a.processor).spec h.due.holds.cell.node.box.running.loaded none)) lies

@@ -1,3 +1,4 @@
+pub mod Imports
 pub mod SentNotes
 pub mod GrowthLaws
 pub mod VisitLaws

@@ -1,18 +1,6 @@
 -- The notes that the nodes of reserves get before a run.
-use Rattle.std.proofs.Common.{List, [], ap, arith, length, map, refl, set, subst, suc, sym, zero, ℕ, ◌+◌, ◌<◌, ◌∙◌, ◌∷◌, ◌≡◌, ◌≢◌, ◌≤◌, inl, inr}
-use mathlib.Core.Option.{some, some-injective, some-ne-none}
-use lib.ListN.{get_elem?}
-use Rattle.atomic_table.specs.Seated.{TableId}
-use Rattle.exec_laws.specs.Prelude.{Reserve}
-use Rattle.node_cells.specs.declared.cell.NodeCell.{NodeCell}
+use Rattle.node_workers.proofs.Imports.{Bare, CellNote, Copied, HaveFirstNotes, IsFirstNamed, IsFirstNote, List, NamedCell, NodeCell, Own, Reserve, TableId, [], ap, arith, as_named, cases_lt, get_elem?, length, map, node_cell, refl, reserve_at, set, some, some-injective, some-ne-none, subst, suc, sym, zero, ℕ, ◌+◌, ◌<◌, ◌∙◌, ◌∷◌, ◌≡◌, ◌≢◌, ◌≤◌}
 use Rattle.node_workers.proofs.EndLaws.{node_cells-named}
-use Rattle.node_workers.specs.Notes.{HaveFirstNotes, IsFirstNamed, IsFirstNote}
-use Rattle.node_workers.specs.Rooms.{as_named, node_cell}
-use Rattle.node_workers.specs.declared.named_cell.CellNote.{CellNote}
-use Rattle.node_workers.specs.declared.named_cell.CellNote.TheVariants as note
-use Rattle.node_workers.specs.declared.named_cell.NamedCell.{NamedCell}
-use Rattle.std.proofs.lemmas.Bool.{cases_lt}
-unfoldable use Rattle.proc_api.specs.Reserves.{reserve_at}
 
 -- an element stands below the length
 pub within : {V : Type 0} (xs : List V) (n : ℕ) (v : V) → get_elem? xs n ≡ some v → n < length xs
@@ -28,9 +16,8 @@ set-each Q [] k y h q n v at = absurd (some-ne-none v (sym at))
 set-each Q (x ∷ xs) zero y h q zero v at = subst (Q 0) (some-injective y v at) q
 set-each Q (x ∷ xs) zero y h q (suc n) v at = h (suc n) v at (λ e. omega (arith, e))
 set-each Q (x ∷ xs) (suc k) y h q zero v at = h 0 v at (λ e. omega (arith, e))
-set-each Q (x ∷ xs) (suc k) y h q (suc n) v at =
-    set-each (λ m. Q (suc m)) xs k y (λ m w e ne. h (suc m) w e (λ s. ne (omega (arith, s)))) q n v
-    at
+set-each Q (x ∷ xs) (suc k) y h q (suc n) v at = set-each (λ m. Q (suc m)) xs k y (λ m w e ne. h
+    (suc m) w e (λ s. ne (omega (arith, s)))) q n v at
 
 set-same : {V W : Type 0} (f : V → W) (xs : List V) (k : ℕ) (y : V)
     → ((v : V) → get_elem? xs k ≡ some v → f y ≡ f v) → map f (set xs k y) ≡ map f xs
@@ -42,13 +29,7 @@ module _ (notes : TableId) (reserves : List Reserve) where
   -- a reserve more, which isn't the node's
   more-reserves : (k n : ℕ) (x : CellNote) → (reserve_at reserves k).node ≢ n
       → IsFirstNote notes reserves k n x → IsFirstNote notes reserves (k + 1) n x
-  more-reserves k n note.Bare ne h = λ j lt. elim (cases_lt j k) [
-    | inl less ↦ h j less
-    | inr le ↦ let e : j ≡ k = omega (arith, lt, le) in
-        subst (λ i. (reserve_at reserves i).node ≢ n) (sym e) ne
-  ]
-  more-reserves k n (note.Own x) ne h = let lt = h.1 in (h.0, omega (arith, lt), h.2, h.3)
-  more-reserves k n (note.Copied x) ne h = h
+  more-reserves k n x ne h = grind (arith, cases_lt)
 
   module _ {P J : Type 0} (cells : List (NodeCell P)) where
     -- no reserve has got its note
@@ -58,17 +39,16 @@ module _ (notes : TableId) (reserves : List Reserve) where
         bare : (xs : List (NodeCell P)) (n : ℕ) (d : NamedCell P J)
             → get_elem? (map as_named xs) n ≡ some d → IsFirstNamed notes reserves 0 n d
         bare [] n d at = absurd (some-ne-none d (sym at))
-        bare (x ∷ xs) zero d at = subst (IsFirstNamed notes reserves 0 0)
-            (some-injective (as_named x) d at)
-            record { note_is = λ j lt. absurd (omega (arith, lt)); going = refl }
+        bare (x ∷ xs) zero d at = subst (IsFirstNamed notes reserves 0 0) (some-injective (as_named
+            x) d at) record { note_is = λ j lt. absurd (omega (arith, lt)); going = refl }
         bare (x ∷ xs) (suc n) d at = let b = bare xs n d at in
             record { note_is = any d.note b.note_is; going = b.going }
           where
             any : (x : CellNote) → IsFirstNote notes reserves 0 n x
                 → IsFirstNote notes reserves 0 (suc n) x
-            any note.Bare h = λ j lt. absurd (omega (arith, lt))
-            any (note.Own x) h = let lt = h.1 in absurd (omega (arith, lt))
-            any (note.Copied x) h = h
+            any Bare h = λ j lt. absurd (omega (arith, lt))
+            any (Own x) h = let lt = h.1 in absurd (omega (arith, lt))
+            any (Copied x) h = h
 
     -- the node of a reserve has no cell
     pub first-past : (k : ℕ) (named : List (NamedCell P J))
@@ -98,6 +78,5 @@ module _ (notes : TableId) (reserves : List Reserve) where
           (λ m v e ne. record {
             note_is = more-reserves k m v.note (λ s. ne (sym s)) (h.each m v e).note_is;
             going = (h.each m v e).going;
-          })
-          record { note_is = own; going = (h.each n d at).going };
+          }) record { note_is = own; going = (h.each n d at).going };
     }

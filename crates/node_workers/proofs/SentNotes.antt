@@ -1,13 +1,6 @@
 -- A growth as it is noted may cross threads, and so may a cell with its note.
 use denote.Exit as exit
-use denote.Param.{arg, param}
-use denote.Param.Send.{IsSend, IsSync, arg_send, param_send, recorded_send, recorded_sync, sendable, struct_send, struct_sync}
-use denote.RattleType.{RattleType}
-use denote.Struct.Declared.{shape}
-use denote.Struct.Tuple.{TupleAt, type_at}
-use mir.Syntax.{Ty}
-use Rattle.std.proofs.Common.{List, [], ◌∷◌, ℕ}
-use Rattle.std.proofs.Crossing.{crosses}
+use Rattle.node_workers.proofs.Imports.{IsSend, IsSync, List, RattleType, TupleAt, Ty, [], arg, arg_send, crosses, param, param_send, recorded_send, recorded_sync, send-CondOf, send-ExprOf, sendable, shape, struct_send, struct_sync, type_at, ℕ, ◌∷◌}
 use Rattle.chunk_data.proofs.lists.List.TheSendSync as list
 use Rattle.exec_table.proofs.rule.ExecTable.TheSendSync as table
 use Rattle.exec_table.proofs.rule.WorkerSeat.TheSendSync as seat
@@ -24,8 +17,6 @@ use Rattle.node_workers.specs.contracts.worker.Worker as worker
 use Rattle.node_workers.specs.declared.named_cell.Naming as naming
 use Rattle.proc_api.specs.declared.processor.Processor as processor
 use Rattle.proc_api.proofs.growth.Edge.TheSendSync as edge
-use Rattle.query_model.proofs.query.CondOf.TheLaws.TheKnot.{send-CondOf}
-use Rattle.query_model.proofs.query.ExprOf.TheLaws.TheKnot.{send-ExprOf}
 use Rattle.task_queue.proofs.queue.TaskQueue.TheSendSync as queue
 use Rattle.task_queue.proofs.seat.ShelfSeat.TheSendSync as shelf_seat
 use Rattle.task_queue.proofs.shelf.Shelf.TheSendSync as shelf

@@ -1,30 +1,5 @@
 -- What a worker's visit leaves of a cell.
-use Rattle.std.proofs.Common.{None, Option, ap, refl, subst, sym, ◌∙◌, ◌≡◌, ℕ}
-use Rattle.exec_laws.specs.Prelude.{BoxPicture}
-use Rattle.exec_laws.specs.declared.edges.NodeStatus.{NodeStatus}
-use Rattle.exec_table.specs.Seats.{Identity, IsSeatOf}
-use Rattle.node_births.proofs.StandLaws.{left-both, stands-still}
-use Rattle.node_births.specs.Left.{reserve_form}
-use Rattle.node_births.specs.OwnBirths.{IsBoxLeft, StandsAmong}
-use Rattle.node_cells.specs.Cells.{cell_ports}
-use Rattle.node_cells.specs.Turns.{Stays}
-use Rattle.node_cells.proofs.VisitLaws.{lies-seat}
-use Rattle.std.specs.Result.{result_err, result_unwrap_or}
-use Rattle.node_cells.specs.Visits.{LeavesCell, LiesAs, Visits, run_end_of}
-use Rattle.node_cells.specs.declared.cell.NodeCell.{NodeCell}
-use Rattle.node_cells.specs.declared.stop_cause.StopCause.{StopCause}
-use Rattle.node_cells.specs.declared.stop_cause.StopCause.TheVariants as cause
-use Rattle.node_cells.specs.declared.node_run.RunEnd.{RunEnd}
-use Rattle.node_cells.specs.declared.node_run.RunEnd.TheVariants as run
-use Rattle.node_workers.specs.Growths.{CellKnows}
-use Rattle.node_workers.specs.Named.{CellFits, births_in, first_edge_in}
-use Rattle.node_workers.specs.Names.{Names}
-use Rattle.node_workers.specs.Visits.{VisitsCell, visit_end}
-use Rattle.node_workers.specs.declared.named_cell.CellNote.{CellNote}
-use Rattle.std.proofs.lemmas.Option.{none-some}
-use Rattle.std.specs.Prelude.{Err, IfOk, Ok, Result}
-use Rattle.task_queue.specs.declared.queue.TaskQueue.{TaskQueue}
-use Rattle.task_queue.specs.declared.tasks.WorkerTasks.{WorkerTasks}
+use Rattle.node_workers.proofs.Imports.{BoxPicture, CellFits, CellKnows, CellNote, Err, Identity, IfOk, IsBoxLeft, IsSeatOf, LeavesCell, LiesAs, Memory, Names, NodeCell, NodeStatus, None, Ok, Option, Rests, Result, RunEnd, StandsAmong, Stays, StopCause, TaskQueue, Visits, VisitsCell, WorkerTasks, ap, births_in, cell_ports, first_edge_in, left-both, lies-seat, none-some, refl, reserve_form, result_err, result_unwrap_or, run_end_of, stands-still, subst, sym, visit_end, ℕ, ◌∙◌, ◌≡◌}
 
 module _ {P : Type 0} (seen : P → BoxPicture) (x : Names) where
   pub fits-knows : (n : ℕ) (c : NodeCell P) (own : CellNote) → CellFits x seen n c None own
@@ -33,7 +8,7 @@ module _ {P : Type 0} (seen : P → BoxPicture) (x : Names) where
     seat = h.seat;
     number = h.number;
     note = h.note;
-    stands = h.stands (none-some cause.Memory);
+    stands = h.stands (none-some Memory);
     box = h.box;
   }
 
@@ -88,10 +63,8 @@ module _ {P : Type 0} (seen : P → BoxPicture) (x : Names) where
   pub visited-fits : (u : Identity) (n : ℕ) (a b : NodeCell P) (was is o : Option StopCause)
       (own : CellNote) → u ≡ x.identity → was ≡ None → is ≡ o → CellFits x seen n a was own
       → LeavesCell seen u o a b → CellFits x seen n b is own
-  visited-fits u n a b was is o own same none now h left =
-      subst (λ s. CellFits x seen n b s own) (sym now)
-      (visit-fits n a b o own (subst (λ s. CellFits x seen n a s own) none h)
-      (subst (λ z. LeavesCell seen z o a b) same left))
+  visited-fits u n a b was is o own same none now h left = rw now (visit-fits n a b o own (subst (λ
+      s. CellFits x seen n a s own) none h) (subst (λ z. LeavesCell seen z o a b) same left))
 
 module _ {P : Type 0} (seen : P → BoxPicture) (t : Identity) (q : TaskQueue) (a b : NodeCell P)
     (before after : WorkerTasks) where
@@ -99,11 +72,10 @@ module _ {P : Type 0} (seen : P → BoxPicture) (t : Identity) (q : TaskQueue) (
   pub visits-cell : (was is o : Option StopCause) → was ≡ None → is ≡ o
       → Visits seen t q o a b before after
       → VisitsCell seen t q was is a b before after
-  visits-cell was is o none now h =
-      subst (λ x. VisitsCell seen t q x is a b before after) (sym none)
-      (subst (λ x. Visits seen t q x a b before after) (sym now) h)
+  visits-cell was is o none now h = rw none (subst (λ x. Visits seen t q x a b before after) (sym
+      now) h)
 
 pub ends-visit : (r : Result RunEnd StopCause) (s : NodeStatus) → IfOk r (λ e. e ≡ run_end_of s)
-    → result_unwrap_or r run.Rests ≡ visit_end (result_err r) s
+    → result_unwrap_or r Rests ≡ visit_end (result_err r) s
 ends-visit (Ok e) s h = h
 ends-visit (Err c) s h = refl

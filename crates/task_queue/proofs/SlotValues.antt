@@ -1,5 +1,5 @@
 -- Values that are laid out in slots and taken from them.
-use Rattle.task_queue.proofs.Imports.{AllFit, Global, HasRoom, List, None, Option, Some, Vec, [], ap, append-nil, append_assoc, length, map, opening, refl, reverse, reverse-append, reverse-reverse, some-injective, some-ne-none, subst, suc, sym, values_of, vec_capacity, zero, ℕ, ◌++◌, ◌∙◌, ◌∷◌, ◌≡◌, ◌≤◌}
+use Rattle.task_queue.proofs.Imports.{AllFit, Global, HasRoom, List, None, Option, Some, Vec, [], ap, append-nil, append_assoc, length, map, opening, refl, reverse, reverse-append, some-injective, some-ne-none, subst, suc, sym, values_of, vec_capacity, zero, ℕ, ◌++◌, ◌∙◌, ◌∷◌, ◌≡◌, ◌≤◌}
 
 module _ {V : Type 0} where
   abbrev full : V → Option V
@@ -7,27 +7,6 @@ module _ {V : Type 0} where
 
   reverse-push : (ys : List V) (x : V) → reverse (ys ++ x ∷ []) ≡ x ∷ reverse ys
   reverse-push ys x = reverse-append ys (x ∷ [])
-
-  -- the values that wait in reverse, laid out behind those that are laid out
-  pub laid-first : (slots : List (Option V)) (vs all : List V) → slots ≡ [] → vs ≡ reverse all
-      → slots ++ map (λ v. Some v) (reverse vs) ≡ map (λ v. Some v) all
-  laid-first slots vs all bare is = ap (λ s. s ++ map full (reverse vs)) bare
-      ∙ ap (λ l. map full (reverse l)) is ∙ ap (map full) (reverse-reverse all)
-
-  -- the same once one more is laid out
-  pub laid-next : (slots now all : List (Option V)) (ys vs : List V) (x : V) → vs ≡ ys ++ x ∷ []
-      → now ≡ slots ++ Some x ∷ [] → slots ++ map (λ v. Some v) (reverse vs) ≡ all
-      → now ++ map (λ v. Some v) (reverse ys) ≡ all
-  laid-next slots now all ys vs x is pushed so =
-      ap (λ s. s ++ map full (reverse ys)) pushed
-      ∙ append_assoc slots (Some x ∷ []) (map full (reverse ys))
-      ∙ (ap (λ l. slots ++ map full l) (sym (reverse-push ys x) ∙ ap reverse (sym is)) ∙ so)
-
-  -- the same once none waits
-  pub laid-last : (slots all : List (Option V)) (vs : List V) → vs ≡ []
-      → slots ++ map (λ v. Some v) (reverse vs) ≡ all → slots ≡ all
-  laid-last slots all vs bare so =
-      sym (append-nil slots) ∙ (ap (λ l. slots ++ map full (reverse l)) (sym bare) ∙ so)
 
   values_of-append : (xs ys : List (Option V)) → values_of (xs ++ ys) ≡ values_of xs ++ values_of ys
   values_of-append [] ys = refl

@@ -1,7 +1,4 @@
-use Rattle.std.proofs.Common.{rules}
-use Rattle.exec_laws.specs.declared.growth.Blank.{Blank}
-use Rattle.node_births.specs.Left.{is_left}
-use Rattle.std.proofs.lemmas.Fn.{filter_same}
+use Rattle.node_births.proofs.Imports.{Blank, filter_same, is_left, rules}
 use Rattle.node_births.proofs.reserve.remove_blanks.Goals as goal
 
 pub returns : goal.returns

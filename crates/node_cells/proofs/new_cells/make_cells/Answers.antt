@@ -11,13 +11,7 @@ new_nodes-requires-clause-ports g c κs within = rw c.as_slice-2.ensures
     (graph-ports (length c.args.boxes.items) c.args.wires.now c.args.reserves.now c.requires.graph)
 
 pub new_nodes-requires-clause-blank : goal.new_nodes-requires-clause-blank
-new_nodes-requires-clause-blank g c κs within =
-    let few = c.requires.graph.graph.so_far.few_nodes in
-    let many = c.requires.graph.nodes_are in
-    rw c.as_slice-3.ensures (blank-reserve (length c.args.boxes.items) (length c.args.wires.now)
-    c.args.wires.now c.args.reserves.now (map g.P.Processor.seen c.args.boxes.items)
-    c.requires.graph.reserves_are c.requires.starting
-    (length-map c.args.boxes.items g.P.Processor.seen) (omega (arith, few, many)))
+new_nodes-requires-clause-blank g c κs within = grind (arith, blank-reserve, length-map)
 
 pub returns-in-Ok-new_table-clause-cells : goal.returns-in-Ok-new_table-clause-cells
 returns-in-Ok-new_table-clause-cells g c = cells-made g.P.Processor.seen c.args.boxes.items
@@ -29,8 +23,11 @@ returns-in-Ok-new_table-clause-cells g c = cells-made g.P.Processor.seen c.args.
     c.cells_of_table.ensures.table c.cells_of_table.ensures.root c.cells_of_table.ensures.cells
 
 pub returns-in-Ok-new_table-clause-reserves : goal.returns-in-Ok-new_table-clause-reserves
-returns-in-Ok-new_table-clause-reserves g c = cells-reserve c.args.ranks.now c.args.wires.now
-    c.args.reserves.now (map g.P.Processor.seen c.args.boxes.items) c.args.boxes.items
-    c.in-Ok.nodes.items c.in-Ok-new_table.made.nodes.items c.cells_of_table.result.cells.items
-    (rw (c.as_slice.ensures, c.as_slice-2.ensures, c.as_slice-3.ensures) at c.in-Ok.ensures.1)
-    c.cells_of_table.ensures.cells
+returns-in-Ok-new_table-clause-reserves g c = grind (
+  arith,
+  cells-reserve c.args.ranks.now c.args.wires.now c.args.reserves.now
+      (map g.P.Processor.seen c.args.boxes.items) c.args.boxes.items c.in-Ok.nodes.items
+      c.in-Ok-new_table.made.nodes.items c.cells_of_table.result.cells.items
+      (rw (c.as_slice.ensures, c.as_slice-2.ensures, c.as_slice-3.ensures) at c.in-Ok.ensures.1)
+      c.cells_of_table.ensures.cells,
+)

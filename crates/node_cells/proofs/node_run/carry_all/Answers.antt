@@ -10,8 +10,7 @@ pub loop-init : goal.loop-init
 loop-init g c = (c.requires.pass, c.requires.cell, search rules, queues-none _ _ _ _)
 
 pub returns-in-Done-clause-queued : goal.returns-in-Done-clause-queued
-returns-in-Done-clause-queued g c = queues-shared (queues-silent c.loop.invariant.3 carry.Done _
-    c.carry.ensures.carries c.in-Done.is refl) c.share_before_calls.ensures.shares
+returns-in-Done-clause-queued g c = search (arith, queues-shared, queues-silent)
 
 pub loop-preserved-in-Told : goal.loop-preserved-in-Told
 loop-preserved-in-Told g c = (

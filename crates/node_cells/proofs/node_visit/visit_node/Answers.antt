@@ -1,4 +1,4 @@
-use Rattle.node_cells.proofs.Imports.{identity_of, rules}
+use Rattle.node_cells.proofs.Imports.{arith, identity_of, rules}
 use Rattle.exec_laws.specs.declared.edges.DueCall.TheVariants as call
 use Rattle.exec_laws.specs.declared.edges.NodeStatus.TheVariants as node
 use Rattle.node_cells.proofs.QueueLaws.{turns-offer}
@@ -10,30 +10,16 @@ pub returns-in-Due-clause-offers : goal.returns-in-Due-clause-offers
 returns-in-Due-clause-offers g c = turns-offer c.run_node.ensures.turns
 
 pub returns-in-Due-clause-visits : goal.returns-in-Due-clause-visits
-returns-in-Due-clause-visits g c = visits-as g.P.Processor.seen (identity_of c.args.table.now)
-    c.args.queue.now _ c.args.cell.now c.run_node.new.cell c.args.tasks.now c.run_node.new.tasks
-    node.Due c.in-Due.is record {
-      begun = c.begin.new.cell;
-      keeps = c.begin.ensures.keeps;
-      runs = record { due = c.begin.ensures.due; turns = c.run_node.ensures.turns };
-    }
+returns-in-Due-clause-visits g c = search (arith, visits-as)
 
 pub returns-in-Resting-clause-offers : goal.returns-in-Resting-clause-offers
 returns-in-Resting-clause-offers g c = turns-offer c.run_node-in-Resting.ensures.turns
 
 pub returns-in-Resting-clause-visits : goal.returns-in-Resting-clause-visits
-returns-in-Resting-clause-visits g c = let ran = c.run_node-in-Resting in
-    visits-as g.P.Processor.seen (identity_of c.args.table.now) c.args.queue.now _
-    c.args.cell.now ran.new.cell c.args.tasks.now ran.new.tasks node.Resting c.in-Resting.is
-    record {
-      begun = c.wake.new.cell;
-      keeps = c.wake.ensures.keeps;
-      runs = record { due = c.wake.ensures.due; turns = ran.ensures.turns };
-    }
+returns-in-Resting-clause-visits g c = search (arith, visits-as)
 
 pub returns-in-AtWork-Schedule-clause-offers : goal.returns-in-AtWork-Schedule-clause-offers
-returns-in-AtWork-Schedule-clause-offers g c = resumes-offer _ _ _ _ _ _ _ _
-    c.resume.ensures.resumes
+returns-in-AtWork-Schedule-clause-offers g c = search (arith, resumes-offer)
 
 pub returns-in-Over-clause-offers : goal.returns-in-Over-clause-offers
 returns-in-Over-clause-offers g c = offers-none _ _

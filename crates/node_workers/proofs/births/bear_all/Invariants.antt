@@ -1,11 +1,4 @@
-use Rattle.std.proofs.Common.{List, length, ℕ, ◌++◌, ◌<◌, ◌≡◌, ◌≤◌}
-use mathlib.Core.Option.{some}
-use lib.ListN.{get_elem?}
-use Rattle.node_workers.specs.Births.{IsGrowthOf, place_at}
-use Rattle.node_workers.specs.Named.{CellFits}
-use Rattle.node_workers.specs.NewNodes.{HasNewOutputs, NotedStep}
-use Rattle.node_workers.specs.declared.named_cell.NamedCell.{NamedCell}
-use Rattle.proc_api.specs.declared.growth.GrowNode.{GrowNode}
+use Rattle.node_workers.proofs.Imports.{CellFits, GrowNode, HasNewOutputs, IsGrowthOf, List, NamedCell, NotedStep, get_elem?, length, place_at, some, ℕ, ◌++◌, ◌<◌, ◌≡◌, ◌≤◌}
 use Rattle.node_workers.proofs.births.bear_all.Given as goal
 
 abbrev pub invariant-loop-node : goal.invariant-loop-node

@@ -1,10 +1,4 @@
-use Rattle.std.proofs.Common.{length, ℕ, ◌<◌, ◌≡◌, ◌≤◌}
-use mathlib.Core.Option.{some}
-use lib.ListN.{get_elem?}
-use Rattle.growth_notes.specs.Notes.{IsNoteOf, noted}
-use Rattle.node_workers.specs.Births.{IsGrowthOf, place_at}
-use Rattle.node_workers.specs.NewNodes.{AwaitsGrowth, EndsNote, HasNewOutputs, NotedStep}
-use Rattle.node_workers.specs.declared.named_cell.NamedCell.{NamedCell}
+use Rattle.node_workers.proofs.Imports.{AwaitsGrowth, EndsNote, HasNewOutputs, IsGrowthOf, IsNoteOf, NamedCell, NotedStep, get_elem?, length, noted, place_at, some, ℕ, ◌<◌, ◌≡◌, ◌≤◌}
 use Rattle.node_workers.proofs.births.give_all_outputs.Given as goal
 
 abbrev pub invariant-loop-k : goal.invariant-loop-k

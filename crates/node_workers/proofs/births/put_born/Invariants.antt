@@ -1,9 +1,4 @@
-use Rattle.std.proofs.Common.{All, List, length, map, reverse, ℕ, ◌++◌, ◌+◌, ◌≡◌, ◌≤◌}
-use Rattle.node_workers.specs.Births.{FitsOwnPlace, number_of}
-use Rattle.task_queue.specs.Numbers.{times}
-use Rattle.task_queue.specs.Queues.{IsPassOf}
-use Rattle.task_queue.specs.Shelves.{IsSameSeat, held}
-use Rattle.task_queue.specs.Tasks.{AreOffered}
+use Rattle.node_workers.proofs.Imports.{All, AreOffered, FitsOwnPlace, IsPassOf, IsSameSeat, List, held, length, map, number_of, reverse, times, ℕ, ◌++◌, ◌+◌, ◌≡◌, ◌≤◌}
 use Rattle.node_workers.proofs.births.put_born.Given as goal
 
 abbrev pub invariant-loop-named : goal.invariant-loop-named

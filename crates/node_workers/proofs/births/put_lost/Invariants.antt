@@ -1,7 +1,4 @@
-use Rattle.std.proofs.Common.{All, length, map, ℕ, ◌+◌, ◌≡◌, ◌≤◌}
-use Rattle.node_workers.specs.Births.{IsLostThere, number_of}
-use Rattle.task_queue.specs.Numbers.{times}
-use Rattle.task_queue.specs.Shelves.{IsSameSeat, held}
+use Rattle.node_workers.proofs.Imports.{All, IsLostThere, IsSameSeat, held, length, map, number_of, times, ℕ, ◌+◌, ◌≡◌, ◌≤◌}
 use Rattle.node_workers.proofs.births.put_lost.Given as goal
 
 abbrev pub invariant-loop-named : goal.invariant-loop-named

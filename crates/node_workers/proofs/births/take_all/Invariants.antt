@@ -1,6 +1,4 @@
-use Rattle.std.proofs.Common.{length, vec_capacity, ◌≡◌, ◌≤◌}
-use Rattle.node_workers.specs.Births.{AwaitGrowth, HoldsMore}
-use Rattle.task_queue.specs.Shelves.{IsSameSeat}
+use Rattle.node_workers.proofs.Imports.{AwaitGrowth, HoldsMore, IsSameSeat, length, vec_capacity, ◌≡◌, ◌≤◌}
 use Rattle.node_workers.proofs.births.take_all.Given as goal
 
 abbrev pub invariant-loop-k : goal.invariant-loop-k

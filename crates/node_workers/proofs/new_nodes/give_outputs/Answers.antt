@@ -1,11 +1,6 @@
-use denote.Param.Send.{sendable}
-use Rattle.std.proofs.Common.{List, ap, false, subst, ◌∙◌, ℕ}
-use Rattle.std.proofs.Crossing.{crosses}
-use Rattle.exec_table.specs.Seats.{Identity, IsSeatOf}
-use Rattle.node_births.specs.Widened.{GetsPorts}
+use Rattle.node_workers.proofs.Imports.{ap, crosses, sendable, ℕ, ◌∙◌}
 use Rattle.node_workers.proofs.NewNodeLaws.{awaits, copy-knows, lost-new, may-gain}
 use Rattle.node_workers.proofs.SentNotes.{noted_sent}
-use Rattle.port_word.specs.declared.flags.Wire.{Wire}
 use Rattle.node_workers.proofs.new_nodes.give_outputs.Goals as goal
 
 pub copy-requires-send-G : goal.copy-requires-send-G
@@ -21,23 +16,17 @@ returns-in-Ok-clause-ok g c = λ step k wired ends new. record {
   taken = c.args.named.now.cell;
   fits = c.requires.named.fits;
   unborn = c.requires.named.unborn;
-  knows = copy-knows wired new c.copy.result
-      (c.copy.ensures.copy ∙ c.requires.shared.notes_are) (c.copy.ensures.same ∙ ends.reserve_is)
-      (c.copy.ensures.seen ∙ ends.noted_is);
-  got = subst (λ (z : Identity × ℕ × List Wire). GetsPorts g.P.Processor.seen z.0 false z.1 z.2
-      c.args.named.now.cell c.get_ports.new.cell)
-      (λ j. (c.requires.shared.table j, wired.first_is j, wired.wires_are j))
-      c.in-Ok.ensures.ok;
+  knows = copy-knows wired new c.copy.result (c.copy.ensures.copy ∙ c.requires.shared.notes_are)
+      (c.copy.ensures.same ∙ ends.reserve_is) (c.copy.ensures.seen ∙ ends.noted_is);
+  got = rw (c.requires.shared.table, wired.first_is, wired.wires_are) at c.in-Ok.ensures.ok;
   processor = c.get_ports.ensures.processor;
   reserve = c.get_ports.ensures.reserve;
   going = c.requires.named.going;
 }
 
 pub returns-in-Err-clause-lost : goal.returns-in-Err-clause-lost
-returns-in-Err-clause-lost g c = λ step k wired ends new.
-    lost-new wired new c.requires.named.unborn c.requires.named.fits
-    (copy-knows wired new c.copy.result (c.copy.ensures.copy ∙ c.requires.shared.notes_are)
-    (c.copy.ensures.same ∙ ends.reserve_is) (c.copy.ensures.seen ∙ ends.noted_is))
-    c.get_ports.new.cell (subst (λ t. IsSeatOf t c.get_ports.new.cell.seat)
-    c.requires.shared.table c.get_ports.ensures.seat) c.get_ports.ensures.number
-    (ap g.P.Processor.seen c.get_ports.ensures.processor)
+returns-in-Err-clause-lost g c = λ step k wired ends new. lost-new wired new c.requires.named.unborn
+    c.requires.named.fits (copy-knows wired new c.copy.result (c.copy.ensures.copy ∙
+    c.requires.shared.notes_are) (c.copy.ensures.same ∙ ends.reserve_is) (c.copy.ensures.seen ∙
+    ends.noted_is)) c.get_ports.new.cell (rw c.requires.shared.table at c.get_ports.ensures.seat)
+    c.get_ports.ensures.number (ap g.P.Processor.seen c.get_ports.ensures.processor)

@@ -1,9 +1,7 @@
 use denote.Exit as exit
-use denote.Param.Send.{arg_send, param_send}
-use Rattle.std.proofs.Common.{subst, sym}
+use Rattle.node_workers.proofs.Imports.{arg_send, param_send}
 use Rattle.node_workers.proofs.NoteLaws.{first-none}
 use Rattle.node_workers.proofs.SentNotes.{noted_sent}
-use Rattle.node_workers.specs.Notes.{HaveFirstNotes}
 use Rattle.node_workers.proofs.notes.give_notes.Goals as goal
 
 pub loop-k-init : goal.loop-k-init
@@ -11,9 +9,8 @@ loop-k-init g c = record {
   root_of = c.requires.notes.root_of;
   made = c.requires.notes.none_made;
   one_each = c.requires.notes.one_each;
-  first = λ cells is. subst (HaveFirstNotes c.args.notes.now.table.shared.table_id
-      c.args.reserves.now 0 cells) (sym is)
-      (first-none c.args.notes.now.table.shared.table_id c.args.reserves.now cells);
+  first = λ cells is. rw is (first-none c.args.notes.now.table.shared.table_id c.args.reserves.now
+      cells);
 }
 
 pub note-note-requires-send-G : goal.note-note-requires-send-G

@@ -1,8 +1,4 @@
-use Rattle.std.proofs.Common.{List, length, map, ◌≡◌}
-use Rattle.growth_notes.specs.Notes.{IsRootOf, reserve_count}
-use Rattle.node_cells.specs.declared.cell.NodeCell.{NodeCell}
-use Rattle.node_workers.specs.Notes.{HaveFirstNotes}
-use Rattle.node_workers.specs.Rooms.{as_named}
+use Rattle.node_workers.proofs.Imports.{HaveFirstNotes, IsRootOf, List, NodeCell, as_named, length, map, reserve_count, ◌≡◌}
 use Rattle.node_workers.proofs.notes.give_notes.Given as goal
 
 abbrev pub invariant-loop-k : goal.invariant-loop-k

@@ -1,5 +1,4 @@
-use Rattle.std.proofs.Common.{length, map, reverse, vec_capacity, ◌++◌, ◌+◌, ◌≡◌, ◌≤◌}
-use Rattle.node_workers.specs.Rooms.{as_ended}
+use Rattle.node_workers.proofs.Imports.{as_ended, length, map, reverse, vec_capacity, ◌++◌, ◌+◌, ◌≡◌, ◌≤◌}
 use Rattle.node_workers.proofs.rooms.end_cells.Given as goal
 
 abbrev pub invariant-loop-cell : goal.invariant-loop-cell

@@ -1,5 +1,4 @@
-use Rattle.std.proofs.Common.{All, length, vec_capacity, ◌≡◌, ◌≤◌}
-use Rattle.node_workers.specs.Rooms.{IsDequeFor}
+use Rattle.node_workers.proofs.Imports.{All, IsDequeFor, length, vec_capacity, ◌≡◌, ◌≤◌}
 use Rattle.node_workers.proofs.rooms.make_deques.Given as goal
 
 abbrev pub invariant-loop-i : goal.invariant-loop-i

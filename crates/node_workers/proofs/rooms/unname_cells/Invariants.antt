@@ -1,5 +1,4 @@
-use Rattle.std.proofs.Common.{length, map, reverse, vec_capacity, ◌++◌, ◌+◌, ◌≡◌, ◌≤◌}
-use Rattle.node_workers.specs.Rooms.{node_cell}
+use Rattle.node_workers.proofs.Imports.{length, map, node_cell, reverse, vec_capacity, ◌++◌, ◌+◌, ◌≡◌, ◌≤◌}
 use Rattle.node_workers.proofs.rooms.unname_cells.Given as goal
 
 abbrev pub invariant-loop-cell : goal.invariant-loop-cell

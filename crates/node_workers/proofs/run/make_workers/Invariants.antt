@@ -1,10 +1,4 @@
-use Rattle.std.proofs.Common.{All, length, vec_capacity, ◌+◌, ◌≡◌, ◌≤◌}
-use Rattle.exec_table.specs.Seats.{identity_of}
-use Rattle.node_workers.specs.Rooms.{IsDequeFor}
-use Rattle.node_workers.specs.Workers.{HasSpare, IsWorkerAt, parts_of}
-use Rattle.task_queue.specs.Numbers.{total_over}
-use Rattle.task_queue.specs.Rules.{all_shares}
-use Rattle.task_queue.specs.Shelves.{places}
+use Rattle.node_workers.proofs.Imports.{All, HasSpare, IsDequeFor, IsWorkerAt, all_shares, identity_of, length, parts_of, places, total_over, vec_capacity, ◌+◌, ◌≡◌, ◌≤◌}
 use Rattle.node_workers.proofs.run.make_workers.Given as goal
 
 abbrev pub invariant-loop-held : goal.invariant-loop-held

@@ -1,8 +1,4 @@
-use Rattle.std.proofs.Common.{inl, subst, sym}
-use Rattle.task_queue.proofs.KeptNumbers.{offers-none}
-use Rattle.task_queue.specs.Queues.{IsPassOf}
-use Rattle.task_queue.specs.Tasks.{OffersNumbers, offered_more}
-use Rattle.task_queue.specs.declared.tasks.WorkerTasks.{WorkerTasks}
+use Rattle.node_workers.proofs.Imports.{IsPassOf, OffersNumbers, WorkerTasks, inl, offered_more, offers-none, subst, sym}
 use Rattle.node_workers.proofs.run.offer_first.Goals as goal
 use Rattle.node_workers.proofs.run.offer_first.Goals.{else-eq, then-eq}
 
@@ -11,13 +7,10 @@ loop-k-init g c = (c.requires.pass, offers-none _ _)
 
 pub loop-k-preserved : goal.loop-k-preserved
 loop-k-preserved g c = elim c.if-eq.branch [
-  | then-eq w ↦ subst (λ (t : WorkerTasks).
-      IsPassOf c.args.queue.now t.pass × OffersNumbers c.args.queue.now c.args.tasks.now t)
-      (sym w.tasks-is) (
+  | then-eq w ↦ subst (λ (t : WorkerTasks). IsPassOf c.args.queue.now t.pass × OffersNumbers
+      c.args.queue.now c.args.tasks.now t) (sym w.tasks-is) (
         w.offer.ensures.pass,
         (_, offered_more c.loop-k.invariant.1.1 (inl w.offer.ensures.offered)),
       )
-  | else-eq w ↦ subst (λ (t : WorkerTasks).
-      IsPassOf c.args.queue.now t.pass × OffersNumbers c.args.queue.now c.args.tasks.now t)
-      (sym w.tasks-is) c.loop-k.invariant
+  | else-eq w ↦ rw w.tasks-is c.loop-k.invariant
 ]

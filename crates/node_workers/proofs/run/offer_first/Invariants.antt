@@ -1,5 +1,4 @@
-use Rattle.task_queue.specs.Queues.{IsPassOf}
-use Rattle.task_queue.specs.Tasks.{OffersNumbers}
+use Rattle.node_workers.proofs.Imports.{IsPassOf, OffersNumbers}
 use Rattle.node_workers.proofs.run.offer_first.Given as goal
 
 abbrev pub invariant-loop-k : goal.invariant-loop-k

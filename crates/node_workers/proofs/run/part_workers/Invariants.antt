@@ -1,8 +1,4 @@
-use Rattle.std.proofs.Common.{All, length, vec_capacity, ◌+◌, ◌≡◌, ◌≤◌}
-use Rattle.exec_table.specs.Seats.{identity_of}
-use Rattle.node_workers.specs.Workers.{IsWorkerOver, WorkerHasEnded, parts_of}
-use Rattle.task_queue.specs.Numbers.{total_over}
-use Rattle.task_queue.specs.Shelves.{IsIdleSeatOf, parts}
+use Rattle.node_workers.proofs.Imports.{All, IsIdleSeatOf, IsWorkerOver, WorkerHasEnded, identity_of, length, parts, parts_of, total_over, vec_capacity, ◌+◌, ◌≡◌, ◌≤◌}
 use Rattle.node_workers.proofs.run.part_workers.Given as goal
 
 abbrev pub invariant-loop-worker : goal.invariant-loop-worker

@@ -1,5 +1,4 @@
-use Rattle.exec_table.specs.Seats.{identity_of}
-use Rattle.node_workers.specs.Ended.{named_by}
+use Rattle.node_workers.proofs.Imports.{identity_of, named_by}
 use Rattle.node_workers.proofs.run.run_cells.Given as goal
 
 abbrev pub ghosts-run_named : goal.ghosts-run_named

@@ -1,7 +1,4 @@
-use Rattle.std.proofs.Common.{Some, ap, arith, sym, ◌∙◌, ◌∷◌}
-use Rattle.atomic_table.specs.Table.{rest}
-use Rattle.task_queue.proofs.Counts.{times-taken_and_left}
-use Rattle.task_queue.specs.Numbers.{once_below, times, without_each}
+use Rattle.node_workers.proofs.Imports.{Some, ap, arith, once_below, rest, sym, times-taken_and_left, ◌∙◌, ◌∷◌}
 use Rattle.node_workers.proofs.SentNotes.{named_sent}
 use Rattle.node_workers.proofs.worker.run_in_place.Goals as goal
 
@@ -17,26 +14,19 @@ visit_slot-end-requires-clause-lies g c κs lives = let took = c.claim.ensures.t
 }
 
 pub invariant_of-shelf : goal.invariant_of-shelf
-invariant_of-shelf g c =
-    let was = c.args.shelf.now in let took = c.claim.ensures.taken.seat in
+invariant_of-shelf g c = let was = c.args.shelf.now in let took = c.claim.ensures.taken.seat in
     let visited = c.visit_slot-end.ensures.place in let left = c.release.ensures.left in
     let id = c.release.ensures.same ∙ visited.table ∙ c.claim.ensures.same in record {
       slots = ap (λ m. m.1) left ∙ visited.others ∙ ap (λ m. rest m.1) took ∙ was.slots;
       once = λ m. let i = ap (λ t. once_below m t.slots) id in let o = was.once m in omega arith;
-      known = λ m. ap (λ x. times m x.0.held) left
-          ∙ ap (λ v. times m (without_each c.args.n v.held)) visited.view
-          ∙ ap (λ x. times m (without_each c.args.n x.0.held)) took
-          ∙ times-taken_and_left c.args.n was.seat.me.0.held was.held.items was.known
-          (ap (times c.args.n) c.requires.shelf.1) m;
+      known = λ m. grind (arith, visited, times-taken_and_left);
       room = let i = ap (λ t. t.slots) id in let o = was.room in omega arith;
       shared = let v = ap (λ x. x.0.parts) left in let w = ap (λ v. v.parts) visited.view in
           let t = ap (λ x. x.0.parts) took in let o = was.shared in omega arith;
     }
 
 pub claim-requires-send-V : goal.claim-requires-send-V
-claim-requires-send-V g c κs lives =
-    named_sent _ _ c.type_bounds.send-P c.type_bounds.send-J _
+claim-requires-send-V g c κs lives = named_sent _ _ c.type_bounds.send-P c.type_bounds.send-J _
 
 pub release-requires-send-V : goal.release-requires-send-V
-release-requires-send-V g c κs lives =
-    named_sent _ _ c.type_bounds.send-P c.type_bounds.send-J _
+release-requires-send-V g c κs lives = named_sent _ _ c.type_bounds.send-P c.type_bounds.send-J _

@@ -1,4 +1,4 @@
-use Rattle.std.proofs.Common.{inr, ◌∙◌}
+use Rattle.node_workers.proofs.Imports.{inr, ◌∙◌}
 use Rattle.node_workers.proofs.worker.run_worker.Goals as goal
 
 pub returns-in-Stopped-clause-worker : goal.returns-in-Stopped-clause-worker

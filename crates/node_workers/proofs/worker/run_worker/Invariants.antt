@@ -1,5 +1,4 @@
-use Rattle.std.proofs.Common.{◌≡◌}
-use Rattle.node_workers.specs.Workers.{IsWorkerAt, parts_of}
+use Rattle.node_workers.proofs.Imports.{IsWorkerAt, parts_of, ◌≡◌}
 use Rattle.node_workers.proofs.worker.run_worker.Given as goal
 
 abbrev pub invariant-loop : goal.invariant-loop
