@@ -1,8 +1,8 @@
 -- The law between rows and columns, for all code that works column by column.
-use Rattle.chunk_data.proofs.Imports.{All, AreLong, Column, ColumnType, FitsType, FitsTypes, Int64, List, PlainColumn, Row, Text, UInt64, Value, [], adds, ap, arith, get_or, get_or-replicate, append_each, column_type, length, length-map, length-replicate, map, plain_column_type, plain_values, refl, replicate, rows_of, suc, sym, values, zero, ℕ, ◌++◌, ◌+◌, ◌<◌, ◌∙◌, ◌∷◌, ◌≡◌, PlainType, same_plain, true}
-use Rattle.chunk_data.specs.declared.typed_value.ColumnType.TheVariants as type
+use Rattle.chunk_data.proofs.Imports.{All, AreLong, Bool, Column, ColumnType, FitsType, FitsTypes, Int64, List, None, Null, PlainColumn, PlainType, Row, Some, Text, UInt64, Value, [], adds, ap, append_each, arith, column_type, false, false≢true, get_or, get_or-replicate, is_nullable, is_some, length, length-map, length-replicate, map, nullable_if, with_nulls, option_map, or_null, plain_column_type, plain_values, refl, replicate, rows_of, same_plain, stored_values, suc, sym, true, values, zero, zip2, ℕ, ◌++◌, ◌+◌, ◌<◌, ◌∙◌, ◌∷◌, ◌≡◌}
 use Rattle.chunk_data.specs.declared.typed_value.PlainType.TheVariants as plain
 use Rattle.chunk_data.specs.declared.typed_value.Value.TheVariants as value
+use Rattle.chunk_data.proofs.Nulls.{nullable_of_nullable_if, plain_of_nullable_if}
 use Rattle.chunk_data.proofs.Rows.{AreLong-joined, AreLong-row}
 pub use Rattle.chunk_data.proofs.Rows.{length-rows_of, column_of-rows_of, row_of-rows_of, rows_of_push}
 
@@ -76,6 +76,17 @@ same_plain-is plain.UInt64 plain.UInt64 h = refl
 same_plain-is plain.Text plain.Text h = refl
 same_plain-is p q h = absurd cc
 
+-- a column of a plain type has the values that it keeps
+pub values-of_plain : (c : Column) → is_nullable (column_type c) ≡ false
+    → values c ≡ stored_values c
+values-of_plain c h = elim c.validity as (λ v. is_nullable (nullable_if (is_some v)
+    (plain_column_type c.plain)) ≡ false → with_nulls (option_map (λ v. v.items) v)
+    (plain_values c.plain) ≡ plain_values c.plain) [
+      | None ↦ λ h. refl
+      | Some v ↦ λ h. absurd (false≢true (sym h
+          ∙ nullable_of_nullable_if true (plain_column_type c.plain)))
+    ] h
+
 -- ---- rows that fit types
 pub length-FitsTypes : (types : List ColumnType) (row : Row) → FitsTypes types row
     → length row ≡ length types
@@ -96,14 +107,40 @@ all_mapped P f h [] = λ k d lt. absurd (omega arith)
 all_mapped P f h (x ∷ xs) = λ k d lt. elim k as (λ k. k < length (map f (x ∷ xs)) → P (get_or (map f
     (x ∷ xs)) k d)) [ zero ↦ λ _. h x | suc k ↦ λ lt. all_mapped P f h xs k d (omega arith) ] lt
 
-plain_fit : (plain : PlainColumn) → All (FitsType (plain_column_type plain)) (plain_values plain)
-plain_fit (Int64 numbers) = all_mapped (FitsType type.Int64) value.Int (λ x. refl) numbers.items
-plain_fit (UInt64 numbers) = all_mapped (FitsType type.UInt64) value.UInt (λ x. refl) numbers.items
-plain_fit (Text texts) = all_mapped (FitsType type.Text) value.Text (λ x. refl) texts
+plain_fit : (b : Bool) (column : PlainColumn)
+    → All (FitsType (nullable_if b (plain_column_type column))) (plain_values column)
+plain_fit b (Int64 numbers) = all_mapped (FitsType (nullable_if b plain.Int64)) value.Int
+    (λ x. plain_of_nullable_if b plain.Int64) numbers.items
+plain_fit b (UInt64 numbers) = all_mapped (FitsType (nullable_if b plain.UInt64)) value.UInt
+    (λ x. plain_of_nullable_if b plain.UInt64) numbers.items
+plain_fit b (Text texts) = all_mapped (FitsType (nullable_if b plain.Text)) value.Text
+    (λ x. plain_of_nullable_if b plain.Text) texts
+
+all_with_nulls : (P : Value → Type 0) → P Null → (validity : List Bool) (vs : List Value) → All P vs
+    → All P (zip2 or_null validity vs)
+all_with_nulls P n [] vs h = λ k d lt. absurd (omega arith)
+all_with_nulls P n (b ∷ validity) [] h = λ k d lt. absurd (omega arith)
+all_with_nulls P n (b ∷ validity) (v ∷ vs) h =
+    let here : P (or_null b v) = elim b as (λ b. P (or_null b v))
+    [ true ↦ h 0 v (omega arith) | false ↦ n ] in
+    let more : All P (zip2 or_null validity vs) =
+    all_with_nulls P n validity vs (λ k d lt. h (suc k) d (omega arith)) in
+    λ k d lt. elim k as (λ k. k < length (zip2 or_null (b ∷ validity) (v ∷ vs))
+    → P (get_or (zip2 or_null (b ∷ validity) (v ∷ vs)) k d)) [
+      | zero ↦ λ _. here
+      | suc k ↦ λ lt. more k d (omega arith)
+    ] lt
 
 -- a column's values fit its type
 pub all_fit : (column : Column) → All (FitsType (column_type column)) (values column)
-all_fit column = plain_fit column.plain
+all_fit column = elim column.validity as (λ v. All (FitsType (nullable_if (is_some v)
+    (plain_column_type column.plain))) (with_nulls (option_map (λ v. v.items) v)
+    (plain_values column.plain))) [
+      | None ↦ plain_fit false column.plain
+      | Some v ↦ all_with_nulls (FitsType (nullable_if true (plain_column_type column.plain)))
+          (nullable_of_nullable_if true (plain_column_type column.plain)) v.items
+          (plain_values column.plain) (plain_fit true column.plain)
+    ]
 
 all_adds : (t : ColumnType) (types : List ColumnType) (column : List Value) (rows : List Row)
     → length column ≡ length rows → All (FitsType t) column → All (FitsTypes types) rows

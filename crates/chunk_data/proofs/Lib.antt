@@ -3,6 +3,7 @@ pub mod Cuts
 pub mod Keeps
 pub mod KeepsTexts
 pub mod Cells
+pub mod Nulls
 pub mod Rows
 pub mod ColumnLists
 pub mod Chunks

@@ -1,46 +1,28 @@
 -- The columns of a chunk, seen as a type and a list of values each.
-use Rattle.std.specs.Prelude.{◌≡◌, ℕ, List, drop, map, take}
-use Rattle.chunk_data.specs.declared.typed_access.PlainSlice.{PlainSlice}
-use Rattle.chunk_data.specs.declared.typed_access.PlainSlice.TheVariants as slice
+use Rattle.std.specs.Prelude.{◌≡◌, ℕ, Bool, List, Option, drop, is_some, map, take}
+use Rattle.std.specs.Option.{option_map}
 use Rattle.chunk_data.specs.declared.typed_column.Column.{Column}
-use Rattle.chunk_data.specs.declared.typed_column.PlainColumn.{PlainColumn}
-use Rattle.chunk_data.specs.declared.typed_column.PlainColumn.TheVariants.{Int64, UInt64, Text}
 use Rattle.chunk_data.specs.declared.typed_value.ColumnType.{ColumnType}
-use Rattle.chunk_data.specs.declared.typed_value.ColumnType.TheVariants as type
 use Rattle.chunk_data.specs.declared.typed_value.Value.{Value}
-use Rattle.chunk_data.specs.declared.typed_value.Value.TheVariants as value
+use Rattle.chunk_data.specs.PlainColumns.{plain_column_type, plain_values}
 use Rattle.chunk_data.specs.Rows.{AreLong}
-
--- the type of values without NULL
-abbrev pub plain_column_type : PlainColumn → ColumnType
-plain_column_type (Int64 numbers) = type.Int64
-plain_column_type (UInt64 numbers) = type.UInt64
-plain_column_type (Text texts) = type.Text
-
--- these values, from the first row to the last
-abbrev pub plain_values : PlainColumn → List Value
-plain_values (Int64 numbers) = map value.Int numbers.items
-plain_values (UInt64 numbers) = map value.UInt numbers.items
-plain_values (Text texts) = map value.Text texts
+use Rattle.chunk_data.specs.Values.{nullable_if, with_nulls}
 
 -- the type of a column's values
 abbrev pub column_type : Column → ColumnType
-column_type c = plain_column_type c.plain
+column_type c = nullable_if (is_some c.validity) (plain_column_type c.plain)
+
+-- which of a column's values aren't NULL, in a column that may have NULL
+abbrev pub column_validity : Column → Option (List Bool)
+column_validity c = option_map (λ v. v.items) c.validity
+
+-- what a column keeps at each row: at a NULL any value of its type
+abbrev pub stored_values : Column → List Value
+stored_values c = plain_values c.plain
 
 -- a column's values, from the first row to the last
 abbrev pub values : Column → List Value
-values c = plain_values c.plain
-
--- the same of a column's values as they are kept
-abbrev pub slice_type : PlainSlice → ColumnType
-slice_type (slice.Ints numbers) = type.Int64
-slice_type (slice.UInts numbers) = type.UInt64
-slice_type (slice.Texts texts) = type.Text
-
-abbrev pub slice_values : PlainSlice → List Value
-slice_values (slice.Ints numbers) = map value.Int numbers.now
-slice_values (slice.UInts numbers) = map value.UInt numbers.now
-slice_values (slice.Texts texts) = map value.Text texts.now
+values c = with_nulls (column_validity c) (stored_values c)
 
 -- n of a column's values, from a place on
 abbrev pub value_range : ℕ → ℕ → Column → List Value

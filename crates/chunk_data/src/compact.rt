@@ -1,4 +1,4 @@
-ghost use Rattle.std.specs.Prelude.{◌≡◌, length, vec_len, slice_index_or, map, ◌<◌, IfOk, pos, ◌≤◌, drop, take, All};
+ghost use Rattle.std.specs.Prelude.{◌≡◌, length, vec_len, slice_index_or, map, ◌<◌, IfOk, pos, ◌≤◌, drop, false, take, All};
 ghost use Rattle.chunk_data.specs.Rows.{kept};
 
 use crate::lists::Memory;
@@ -41,6 +41,20 @@ pub(crate) fn gather_uints(items: &Vec<u64>, places: &[usize]) -> Result<Vec<u64
         places
             .iter()
             .map(|p| numbers[*p])
+            .collect(*items.allocator())?,
+    )
+}
+
+pub(crate) fn gather_bools(items: &Vec<bool>, places: &[usize]) -> Result<Vec<bool>, Memory>
+    requires { All (λ p. p < length items.now.items) places.now }
+    ensures { IfOk result
+        (λ v. v.items ≡ map (λ p. slice_index_or items.now.items p false) places.now) }
+{
+    let truths = items.as_slice();
+    Ok(
+        places
+            .iter()
+            .map(|p| truths[*p])
             .collect(*items.allocator())?,
     )
 }

@@ -31,10 +31,6 @@ fn compare_by(left: &Chunk, i: usize, right: &Chunk, j: usize, key: &SortKey) ->
         (value_at (row_at right.now.rows j) key.now.column) }
 {
     let place = key.column as usize;
-    let order = left.column(place).compare(i, right.column(place), j);
-    if key.descending {
-        order.reverse()
-    } else {
-        order
-    }
+    left.column(place)
+        .compare(i, right.column(place), j, key.descending)
 }

@@ -1,37 +1,41 @@
-ghost use Rattle.std.specs.Prelude.{◌≡◌, ℕ, ◌+◌, ◌≤◌, ◌<◌, ◌++◌, ◌∷◌, List, [], length, map, take, drop, slice_index_or, OnOk, OnErr, IfOk, All};
-ghost use Rattle.chunk_data.specs.Names.{FitsType, value_at, value_cmp, column_type, values, kept};
+ghost use Rattle.std.proofs.Props.{props};
+ghost use Rattle.chunk_data.specs.PlainColumns.{HasOneEach};
 
-use crate::compact::{copy_items, gather_ints, gather_uints, keep_items, remove_front};
+use crate::compact::{copy_items, gather_bools, keep_items, remove_front};
 use crate::lists::Memory;
-use crate::text_column::Texts;
+use crate::plain_column::PlainColumn;
 use crate::typed_value::{ColumnType, Value};
 use std::alloc::Global;
 use std::cmp::Ordering;
 
-/// Values of one type. What they are kept in is known in this crate alone.
+/// Values of one type. What they are kept in is known in this crate alone: plain values, and in a
+/// column that may have NULL beside each whether it is valid. What stands under a NULL is any value
+/// of the plain type, as a loop over all rows leaves it there.
 #[derive(Debug, Drop)]
 pub struct Column {
     pub(crate) plain: PlainColumn,
+    pub(crate) validity: Option<Vec<bool>>,
+    pub(crate) ghost one_each: { HasOneEach validity plain } by { Prim.hlevel props },
 }
 
-/// Values without NULL, in one vector of their own type.
-#[derive(Debug, Drop)]
-pub(crate) enum PlainColumn {
-    Int64(Vec<i64>),
-    UInt64(Vec<u64>),
-    Text(Texts),
-}
-
+#[tactic(auto, using(crate::proofs::Nulls::nulls))]
 impl Column {
+    ghost use Rattle.std.specs.Prelude.{◌≡◌, ℕ, ◌+◌, ◌≤◌, ◌<◌, ◌++◌, ◌∷◌, List, [], length, map, take, drop, slice_index_or, OnOk, OnErr, IfOk, All};
+    ghost use Rattle.chunk_data.specs.Names.{FitsType, value_at, key_cmp, column_type, stored_values, values, kept, or_null};
+
     /// A column without values; it takes no memory.
     pub fn new(alloc: Global, kind: ColumnType) -> Self
         ensures kind { column_type result ≡ kind }
         ensures empty { values result ≡ [] }
     {
-        match kind {
-            ColumnType::Int64 => Column::of_ints(Vec::new(alloc)),
-            ColumnType::UInt64 => Column::of_uints(Vec::new(alloc)),
-            ColumnType::Text => Column::of_texts(Texts::new(alloc)),
+        let plain = PlainColumn::new(alloc, kind.plain());
+        if kind.is_nullable() {
+            let validity = Some(Vec::new(alloc));
+            return Column { plain, validity };
+        }
+        Column {
+            plain,
+            validity: None,
         }
     }
 
@@ -39,35 +43,25 @@ impl Column {
     pub fn kind(&self) -> ColumnType
         ensures { result ≡ column_type self.now }
     {
-        match &self.plain {
-            PlainColumn::Int64(_) => ColumnType::Int64,
-            PlainColumn::UInt64(_) => ColumnType::UInt64,
-            PlainColumn::Text(_) => ColumnType::Text,
-        }
+        self.plain.kind().nullable_if(self.validity.is_some())
     }
 
     /// How many values it has.
     pub fn len(&self) -> usize
         ensures { result ≡ length (values self.now) }
     {
-        match &self.plain {
-            PlainColumn::Int64(numbers) => numbers.len(),
-            PlainColumn::UInt64(numbers) => numbers.len(),
-            PlainColumn::Text(texts) => texts.len(),
-        }
+        self.plain.len()
     }
 
-    /// Makes room for n more values, of a Text column without their bytes; the values stay.
+    /// Makes room for n more values, of texts without their bytes; the values stay.
     pub fn reserve(&mut self, n: usize) -> Result<(), Memory>
         ensures kind { column_type self.new ≡ column_type self.old }
         ensures values { values self.new ≡ values self.old }
     {
-        match &mut self.plain {
-            PlainColumn::Int64(numbers) => numbers.try_reserve(n)?,
-            PlainColumn::UInt64(numbers) => numbers.try_reserve(n)?,
-            PlainColumn::Text(texts) => texts.reserve(n)?,
+        if let Some(validity) = &mut self.validity {
+            validity.try_reserve(n)?;
         }
-        Ok(())
+        self.plain.reserve(n)
     }
 
     /// Adds a value that fits the column's type; after an error nothing has changed and the value
@@ -88,13 +82,24 @@ impl Column {
         ensures ok { OnOk result (values self.new ≡ values self.old ++ value.now ∷ []) }
         ensures err { OnErr result (values self.new ≡ values self.old) }
     {
-        match (&mut self.plain, value) {
-            (PlainColumn::Int64(numbers), Value::Int(number)) => numbers.push(*number)?,
-            (PlainColumn::UInt64(numbers), Value::UInt(number)) => numbers.push(*number)?,
-            (PlainColumn::Text(texts), Value::Text(text)) => texts.push(text.as_slice())?,
-            _ => unreachable!(),
+        match value {
+            Value::Int(number) => self.push_int(*number),
+            Value::UInt(number) => self.push_uint(*number),
+            Value::Text(text) => self.push_text(text.as_slice()),
+            Value::Null => self.push_null(),
         }
-        Ok(())
+    }
+
+    /// Whether value i isn't NULL.
+    pub fn is_valid(&self, i: usize) -> bool
+        requires { i < length (values self.now) }
+        ensures { value_at (values self.now) i
+            ≡ or_null result (value_at (stored_values self.now) i) }
+    {
+        match &self.validity {
+            None => true,
+            Some(validity) => validity[i],
+        }
     }
 
     /// A copy of value i.
@@ -102,59 +107,57 @@ impl Column {
         requires { i < length (values self.now) }
         ensures { IfOk result (λ v. v ≡ value_at (values self.now) i) }
     {
-        match &self.plain {
-            PlainColumn::Int64(numbers) => Ok(Value::Int(numbers[i])),
-            PlainColumn::UInt64(numbers) => Ok(Value::UInt(numbers[i])),
-            PlainColumn::Text(texts) => Ok(Value::Text(texts.copy_at(i)?)),
+        if !self.is_valid(i) {
+            return Ok(Value::Null);
         }
+        let value = self.plain.value(i)?;
+        Ok(value)
     }
 
-    /// How value i compares with the other column's value j.
-    pub fn compare(&self, i: usize, other: &Column, j: usize) -> Ordering
+    /// How value i compares with the other column's value j, as a key; NULL stands last.
+    pub fn compare(&self, i: usize, other: &Column, j: usize, descending: bool) -> Ordering
         requires kinds { column_type other.now ≡ column_type self.now }
         requires here { i < length (values self.now) }
         requires there { j < length (values other.now) }
-        ensures { result
-            ≡ value_cmp (value_at (values self.now) i) (value_at (values other.now) j) }
+        ensures { result ≡ key_cmp descending (value_at (values self.now) i)
+            (value_at (values other.now) j) }
     {
-        match (&self.plain, &other.plain) {
-            (PlainColumn::Int64(xs), PlainColumn::Int64(ys)) => xs[i].cmp(&ys[j]),
-            (PlainColumn::UInt64(xs), PlainColumn::UInt64(ys)) => xs[i].cmp(&ys[j]),
-            (PlainColumn::Text(xs), PlainColumn::Text(ys)) => xs.get(i).cmp(ys.get(j)),
-            _ => unreachable!(),
+        match (self.is_valid(i), other.is_valid(j)) {
+            (true, true) => {
+                let order = self.plain.compare(i, &other.plain, j);
+                if descending { order.reverse() } else { order }
+            }
+            (true, false) => Ordering::Less,
+            (false, true) => Ordering::Greater,
+            (false, false) => Ordering::Equal,
         }
     }
 
     /// Exactly the values whose place in the mask has true stay, in order.
-    #[tactic(auto, using(crate::proofs::Cells::maps))]
     pub fn keep(&mut self, mask: &[bool])
         requires { length mask.now ≡ length (values self.old) }
         ensures kind { column_type self.new ≡ column_type self.old }
         ensures kept { values self.new ≡ kept mask.now (values self.old) }
     {
-        match &mut self.plain {
-            PlainColumn::Int64(numbers) => keep_items(numbers, mask),
-            PlainColumn::UInt64(numbers) => keep_items(numbers, mask),
-            PlainColumn::Text(texts) => texts.keep(mask),
+        self.plain.keep(mask);
+        if let Some(validity) = &mut self.validity {
+            keep_items(validity, mask);
         }
     }
 
     /// The first n stay.
-    #[tactic(auto, using(crate::proofs::Cells::maps))]
     pub fn truncate(&mut self, n: usize)
         ensures kind { column_type self.new ≡ column_type self.old }
         ensures front { values self.new ≡ take n (values self.old) }
     {
-        match &mut self.plain {
-            PlainColumn::Int64(numbers) => numbers.truncate(n),
-            PlainColumn::UInt64(numbers) => numbers.truncate(n),
-            PlainColumn::Text(texts) => texts.truncate(n),
+        self.plain.truncate(n);
+        if let Some(validity) = &mut self.validity {
+            validity.truncate(n);
         }
     }
 
     /// So many of the other's values, from a place on, after its own; after an error nothing has
     /// changed.
-    #[tactic(auto, using(crate::proofs::Cells::maps))]
     pub fn append_range(&mut self, other: &Column, from: usize, n: usize) -> Result<(), Memory>
         requires kinds { column_type other.now ≡ column_type self.old }
         requires in_range { from + n ≤ length (values other.now) }
@@ -163,32 +166,34 @@ impl Column {
             (values self.new ≡ values self.old ++ take n (drop from (values other.now))) }
         ensures err { OnErr result (values self.new ≡ values self.old) }
     {
-        match (&mut self.plain, &other.plain) {
-            (PlainColumn::Int64(numbers), PlainColumn::Int64(others)) => {
-                numbers.extend_from_slice(&others.as_slice()[from..from + n])?
-            }
-            (PlainColumn::UInt64(numbers), PlainColumn::UInt64(others)) => {
-                numbers.extend_from_slice(&others.as_slice()[from..from + n])?
-            }
-            (PlainColumn::Text(texts), PlainColumn::Text(others)) => {
-                texts.append_range(others, from, n)?
+        match (&mut self.validity, &other.validity) {
+            (None, None) => self.plain.append_range(&other.plain, from, n),
+            (Some(validity), Some(others)) => {
+                validity.try_reserve(n)?;
+                self.plain.append_range(&other.plain, from, n)?;
+                validity.extend_from_slice(&others.as_slice()[from..from + n])?;
+                Ok(())
             }
             _ => unreachable!(),
         }
-        Ok(())
     }
 
     /// The values at the places, in the places' order.
-    #[tactic(auto, using(crate::proofs::Cells::maps))]
     pub fn gather(&self, places: &[usize]) -> Result<Column, Memory>
         requires { All (λ p. p < length (values self.now)) places.now }
         ensures kind { IfOk result (λ c. column_type c ≡ column_type self.now) }
         ensures values { IfOk result (λ c. values c ≡ map (value_at (values self.now)) places.now) }
     {
-        match &self.plain {
-            PlainColumn::Int64(numbers) => Ok(Column::of_ints(gather_ints(numbers, places)?)),
-            PlainColumn::UInt64(numbers) => Ok(Column::of_uints(gather_uints(numbers, places)?)),
-            PlainColumn::Text(texts) => Ok(Column::of_texts(texts.gather(places)?)),
+        let plain = self.plain.gather(places)?;
+        match &self.validity {
+            None => Ok(Column {
+                plain,
+                validity: None,
+            }),
+            Some(validity) => {
+                let validity = Some(gather_bools(validity, places)?);
+                Ok(Column { plain, validity })
+            }
         }
     }
 
@@ -197,23 +202,27 @@ impl Column {
         ensures kind { IfOk result (λ c. column_type c ≡ column_type self.now) }
         ensures values { IfOk result (λ c. values c ≡ values self.now) }
     {
-        match &self.plain {
-            PlainColumn::Int64(numbers) => Ok(Column::of_ints(copy_items(numbers)?)),
-            PlainColumn::UInt64(numbers) => Ok(Column::of_uints(copy_items(numbers)?)),
-            PlainColumn::Text(texts) => Ok(Column::of_texts(texts.copy()?)),
+        let plain = self.plain.copy()?;
+        match &self.validity {
+            None => Ok(Column {
+                plain,
+                validity: None,
+            }),
+            Some(validity) => {
+                let validity = Some(copy_items(validity)?);
+                Ok(Column { plain, validity })
+            }
         }
     }
 
     /// What follows the first n values stays.
-    #[tactic(auto, using(crate::proofs::Cells::maps))]
     pub fn remove_front(&mut self, n: usize)
         ensures kind { column_type self.new ≡ column_type self.old }
         ensures rest { values self.new ≡ drop n (values self.old) }
     {
-        match &mut self.plain {
-            PlainColumn::Int64(numbers) => remove_front(numbers, n),
-            PlainColumn::UInt64(numbers) => remove_front(numbers, n),
-            PlainColumn::Text(texts) => texts.remove_front(n),
+        self.plain.remove_front(n);
+        if let Some(validity) = &mut self.validity {
+            remove_front(validity, n);
         }
     }
 }

@@ -1,4 +1,4 @@
-use Rattle.chunk_data.proofs.Imports.{Column, List, Value, arith, column_type, length, length-map, map, value_range, ◌<◌, ◌∙◌, ◌≡◌}
+use Rattle.chunk_data.proofs.Imports.{Column, List, Value, arith, column_type, length, length-map, map, value_range, ◌<◌, ◌≡◌}
 use Rattle.chunk_data.proofs.ColumnLists.{Joined-more, Joined-all, Joined-back, Joined-same, Joined-long, agrees_at, agreed_long, other_at}
 use Rattle.chunk_data.proofs.column_list.append_ranges.Goals as goal
 

@@ -1,4 +1,4 @@
-use Rattle.chunk_data.proofs.Imports.{[], arith, length, length-map, map, ◌<◌, ◌∙◌, ◌∷◌, ◌≡◌}
+use Rattle.chunk_data.proofs.Imports.{[], arith, length, length-map, map, ◌<◌, ◌∷◌, ◌≡◌}
 use Rattle.chunk_data.proofs.ColumnLists.{Joined-more, Joined-all, Joined-back, Joined-same, Joined-long, fits_at, fits_long, other_at}
 use Rattle.chunk_data.proofs.Laws.{length-FitsTypes}
 use Rattle.chunk_data.proofs.column_list.push_all.Goals as goal

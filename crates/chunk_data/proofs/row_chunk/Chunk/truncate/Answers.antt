@@ -1,4 +1,4 @@
-use Rattle.chunk_data.proofs.Imports.{ap, arith, map, take, take_all, ◌∙◌, ◌≡◌}
+use Rattle.chunk_data.proofs.Imports.{ap, arith, map, take, take_all, ◌∙◌}
 use Rattle.chunk_data.proofs.Chunks.{columns_after, length_rows, rows_after}
 use Rattle.chunk_data.proofs.Rows.{AreLong-take, rows_of-take}
 use Rattle.chunk_data.proofs.row_chunk.Chunk.truncate.Goals as goal

@@ -1,4 +1,4 @@
-use Rattle.chunk_data.proofs.Imports.{ap, arith, drop, drop_all, ◌∙◌, ◌≡◌}
+use Rattle.chunk_data.proofs.Imports.{ap, arith, drop, drop_all, ◌∙◌}
 use Rattle.chunk_data.proofs.Cuts.{length-cut, rest_above, AreEnds_rest, cut_rest_of}
 use Rattle.chunk_data.proofs.text_column.Texts.remove_front.Goals as goal
 

@@ -1,4 +1,4 @@
-use Rattle.chunk_data.proofs.Imports.{arith, take_all, ◌∙◌, ◌≡◌}
+use Rattle.chunk_data.proofs.Imports.{arith, take_all}
 use Rattle.chunk_data.proofs.Cuts.{length-cut}
 use Rattle.chunk_data.proofs.text_column.Texts.truncate.Goals as goal
 
