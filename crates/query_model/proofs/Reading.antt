@@ -14,7 +14,10 @@ spelled_value-fits : (t : ColumnType) (f : List ℕ) (v : Value) → spelled_val
     → FitsType t v
 spelled_value-fits column.Int64 f v h = search (arith, none-some, same_Some)
 spelled_value-fits column.UInt64 f v h = search (arith, none-some, same_Some)
-spelled_value-fits column.Text f v h = subst (FitsType column.Text) (same_Some _ _ h) refl
+spelled_value-fits column.Text f v h = search (arith, same_Some)
+spelled_value-fits column.NullInt64 f v h = search (arith, none-some, same_Some)
+spelled_value-fits column.NullUInt64 f v h = search (arith, none-some, same_Some)
+spelled_value-fits column.NullText f v h = search (arith, same_Some)
 
 -- a row of the types, from as many fields
 pub record IsSpelled (types : List ColumnType) (fields : List (List ℕ)) (row : Row) : Type 0 where

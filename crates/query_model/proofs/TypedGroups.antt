@@ -1,5 +1,5 @@
 -- The checked query of a query that no condition refuses is typed.
-use Rattle.query_model.proofs.Imports.{OperandForm, AggCall, All, All-append, All-cons, All-head, All-map, All-nil, All-tail, All-weaker, ArePicks, ArePlainItems, Bool, CanBePicked, Checked, ColumnRef, ColumnType, CondOf, EachWith, Expr, FromColumn, Grouping, HasItsArgument, IsAnalysable, IsChecked, IsGrouping, IsItem, IsNoCall, IsPick, IsPlacedCall, IsPlacedItem, IsShape, IsTypedCall, IsTypedGrouping, IsTypedQuery, IsTypedShape, Item, ItemKind, Items, OperandTyping, List, Listed, NamePair, None, Operand, Option, Query, Schema, Shape, Some, Star, [], agg_typing, and_parts, ap, append_assoc, arith, bare_columns, call_type, calls_of, cond, cond_fits, cond_operands, expr_columns, expr_typing, false, filter, fits_where, flat_map, flat_map-append, from_columns, get_or-append-add, group_types, is_grouped, is_key_of, is_typed, item_calls, item_columns, item_typing, join_pairs, key_place, length, length-append, length-map, list_all, list_any, listed, map, means, meant, nat_lt, operand_columns, operands_of, place_in, place_of, plain, query_calls, refl, refusal_of, same_column, slice_index_or, subst, suc, sym, text_columns, true, typed, type_at, types_of, unfit, ℕ, ◌&&◌, ◌++◌, ◌+◌, ◌<◌, ◌==◌, ◌||◌, ◌∙◌, ◌∷◌, ◌≡◌, ◌≤◌, argument_form, cond_form, formula, item_tree, item_what, items_in, option_map, query_tree, selection, sides_in, from_types, ItemTree, QueryTree}
+use Rattle.query_model.proofs.Imports.{OperandForm, AggCall, All, All-append, All-cons, All-head, All-map, All-nil, All-tail, All-weaker, ArePicks, ArePlainItems, Bool, CanBePicked, Checked, ColumnRef, ColumnType, CondOf, EachWith, Expr, FromColumn, Grouping, HasItsArgument, IsAnalysable, IsChecked, IsGrouping, IsItem, IsNoCall, IsPick, IsPlacedCall, IsPlacedItem, IsShape, IsTypedCall, IsTypedGrouping, IsTypedQuery, IsTypedShape, Item, ItemKind, Items, OperandTyping, List, Listed, NamePair, None, Operand, Option, Query, Schema, Shape, Some, Star, [], agg_typing, and_parts, ap, append_assoc, arith, bare_columns, call_type, calls_of, cond, cond_fits, cond_operands, expr_columns, expr_typing, false, filter, fits_where, flat_map, flat_map-append, from_columns, get_or-append-add, group_types, is_grouped, is_key_of, is_typed, item_calls, item_columns, item_typing, join_pairs, key_place, length, length-append, length-map, list_all, list_any, listed, map, means, meant, nat_lt, null, operand_columns, operands_of, place_in, place_of, plain, query_calls, refl, refusal_of, same_column, slice_index_or, subst, suc, sym, text_columns, true, typed, type_at, types_of, unfit, ℕ, ◌&&◌, ◌++◌, ◌+◌, ◌<◌, ◌==◌, ◌||◌, ◌∙◌, ◌∷◌, ◌≡◌, ◌≤◌, argument_form, cond_form, formula, item_tree, item_what, items_in, option_map, query_tree, selection, sides_in, from_types, ItemTree, QueryTree}
 use Rattle.chunk_data.specs.declared.typed_value.ColumnType.TheVariants as column
 use Rattle.query_model.specs.Names.{type_of}
 use Rattle.query_model.specs.Formulas as form
@@ -134,6 +134,7 @@ module _ (columns : List FromColumn) where
     ap (type_at (front ++ t ∷ rest)) (let e : k ≡ length front + 0 = omega (arith, at) in e)
         ∙ get_or-append-add front (t ∷ rest) 0 column.Text ∙ h,
   )
+  call_type_at front rest k t null at h = absurd h
   call_type_at front rest k t unfit at h = tt
 
   calls_have_types : (front : List ColumnType) (k : ℕ) (calls : List (AggCall ColumnRef))
@@ -179,6 +180,7 @@ module _ (columns : List FromColumn) where
       rw (flat_map-append calls_of (cond_operands a) (cond_operands b))
       (All-append IsFitCall _ _ (cond_calls_fit a each.0) (cond_calls_fit b each.1))
   cond_calls_fit (cond'.Not' p a) h = cond_calls_fit a h
+  cond_calls_fit (cond'.IsNull a) h = search (arith, IsFit)
 
   having_calls_fit : (h : Option (CondOf ColumnRef))
       → fits_where columns (option_map cond_form h) ≡ true

@@ -1,5 +1,5 @@
 -- A query whose types fit has typed items and a typed condition, once its names have places.
-use Rattle.query_model.proofs.Imports.{AggCall, AggOp, All, All-head, All-nil, AreColumnsFrom, AreNumbersAlike, ArithOp, BothOrNone, CanHold, ColumnRef, ColumnType, CompareOp, Cond, CondOf, Count, Expr, ExprOf, FromColumn, HasItsArgument, IsGroupedOperand, IsItem, IsPlaced, IsPlacedCall, IsPlacedCond, IsTyped, IsTypedCall, IsTypedCond, IsTypedFilter, IsTypedOperand, OperandTyping, List, None, Operand, Option, Some, [], agg_typing, and_parts, append-nil, arith, arith_typing, arith_type, bare_columns, call_typing, call_type, calls_of, comparable, cond_fits, cond_operands, expr_columns, expr_typing, false, fits_where, flat_map, flat_map-append, is_some, is_text, is_typed, known_typing, length, means, meant_type, not, not-true, operand_typing, operand_type, operands_of, place_in, place_of, plain, number_type, plain_of, refl, result_type, same_plain-is, same_type, sym, takes_argument, true, typed, types_of, unfit, type_of, ℕ, ℤ, ⊤, ◌&&◌, ◌++◌, ◌+◌, ◌∙◌, ◌∷◌, ◌≡◌, ◌≤◌, argument_form, cond_form, formula, map, map-append, operand_form, option_map, sides_in, sides_of}
+use Rattle.query_model.proofs.Imports.{AggCall, AggOp, All, All-head, All-nil, AreColumnsFrom, AreNumbersAlike, ArithOp, BothOrNone, CanHold, ColumnRef, ColumnType, CompareOp, Cond, CondOf, Count, Expr, ExprOf, FromColumn, HasItsArgument, IsGroupedOperand, IsItem, IsPlaced, IsPlacedCall, IsPlacedCond, IsTyped, IsTypedCall, IsTypedCond, IsTypedFilter, IsTypedOperand, OperandTyping, List, None, Operand, Option, Some, [], agg_typing, and_parts, append-nil, arith, arith_typing, arith_type, bare_columns, call_typing, call_type, calls_of, comparable, cond_fits, cond_operands, expr_columns, expr_typing, false, fits_where, flat_map, flat_map-append, has_null_test, is_null_operand, is_some, is_text, is_typed, known_typing, length, means, meant_type, not, not-true, null, operand_typing, operand_type, operands_of, place_in, place_of, plain, number_type, plain_of, refl, result_type, same_plain-is, same_type, sym, takes_argument, true, typed, types_of, unfit, type_of, ℕ, ℤ, ⊤, ◌&&◌, ◌++◌, ◌+◌, ◌∙◌, ◌∷◌, ◌≡◌, ◌≤◌, argument_form, cond_form, formula, map, map-append, operand_form, option_map, sides_in, sides_of}
 use Rattle.query_model.specs.declared.query.ExprOf.TheVariants as expr
 use Rattle.query_model.specs.declared.query.Operand.TheVariants as operand
 use Rattle.query_model.specs.declared.query.CondOf.TheVariants as cond'
@@ -10,6 +10,7 @@ use Rattle.query_model.proofs.WorkedRows.{Place}
 abbrev pub IsOfKind : List ColumnType → Expr → OperandTyping → Type 0
 IsOfKind types e (plain z) = IsTyped types e × (plain_of e ≡ Some z)
 IsOfKind types e (typed t) = IsTyped types e × (plain_of e ≡ None) × (type_of e types ≡ t)
+IsOfKind types e null = ⊥
 IsOfKind types e unfit = ⊤
 
 -- the same of a side of a comparison
@@ -17,6 +18,7 @@ abbrev pub IsOperandOfKind : List ColumnType → Operand ℕ → OperandTyping �
 IsOperandOfKind types o (plain z) = IsTypedOperand types o
     × (is_text (operand_type o types) ≡ false)
 IsOperandOfKind types o (typed t) = IsTypedOperand types o × (operand_type o types ≡ t)
+IsOperandOfKind types o null = IsTypedOperand types o × (is_null_operand o ≡ true)
 IsOperandOfKind types o unfit = ⊤
 
 -- A column.
@@ -67,14 +69,41 @@ module _ (types : List ColumnType) where
       → IsOperandOfKind types (operand.Plain e) kind
   operand_is_of_kind e (plain z) h = search (arith, type_of_number)
   operand_is_of_kind e (typed t) h = (h.0, h.2)
+  operand_is_of_kind e null h = absurd h
   operand_is_of_kind e unfit h = tt
+
+  no_null : (o : Operand ℕ) → is_null_operand o ≡ true → is_null_operand o ≡ false → ⊥
+  no_null o is none = cc
 
   comparison_is_typed : (op : CompareOp) (a b : Operand ℕ) (x y : OperandTyping)
       → IsOperandOfKind types a x → IsOperandOfKind types b y → comparable x y ≡ true
       → IsTypedCond types (cond'.Compare op a b)
-  comparison_is_typed op a b (plain y) (plain z) h k e = (h.0, k.0, h.1 ∙ sym k.1)
-  comparison_is_typed op a b (typed s) (typed t) h k e = search (arith)
-  comparison_is_typed op a b x y h k e = search (arith)
+  comparison_is_typed op a b (plain y) (plain z) h k e = (h.0, k.0, λ m n. h.1 ∙ sym k.1)
+  comparison_is_typed op a b (typed s) (typed t) h k e = (h.0, k.0, λ m n. search (arith))
+  comparison_is_typed op a b (typed s) (plain z) h k e = (h.0, k.0, λ m n. search (arith))
+  comparison_is_typed op a b (plain z) (typed t) h k e = (h.0, k.0, λ m n. search (arith))
+  comparison_is_typed op a b null (typed t) h k e = (h.0, k.0, λ m n. absurd (no_null a h.1 m))
+  comparison_is_typed op a b null (plain z) h k e = (h.0, k.0, λ m n. absurd (no_null a h.1 m))
+  comparison_is_typed op a b null null h k e = (h.0, k.0, λ m n. absurd (no_null a h.1 m))
+  comparison_is_typed op a b (typed s) null h k e = (h.0, k.0, λ m n. absurd (no_null b k.1 n))
+  comparison_is_typed op a b (plain z) null h k e = (h.0, k.0, λ m n. absurd (no_null b k.1 n))
+  comparison_is_typed op a b x y h k e = absurd cc
+
+  -- an operand of which IS NULL may be asked
+  typed_side : (o : Operand ℕ) (x : OperandTyping) → IsOperandOfKind types o x
+      → is_typed x ≡ true → IsTypedOperand types o
+  typed_side o (typed t) h e = h.0
+  typed_side o x h e = absurd cc
+
+  pub null_test_is_typed : (columns : List FromColumn) (a : Operand ColumnRef) (o : Operand ℕ)
+      → IsOperandOfKind types o (operand_typing columns (operand_form a))
+      → has_null_test columns (operand_form a) ≡ true → IsTypedOperand types o
+  null_test_is_typed columns (operand.Plain e) o h fits =
+      typed_side o (expr_typing columns (formula e)) h fits
+  null_test_is_typed columns (operand.Text bytes) o h fits = h.0
+  null_test_is_typed columns (operand.Agg call) o h fits =
+      typed_side o (agg_typing columns call.op (argument_form call.arg)) h fits
+  null_test_is_typed columns operand.Null o h fits = h.0
 
   -- Items.
 
@@ -124,12 +153,14 @@ module _ (types : List ColumnType) (columns : List FromColumn) (place : ColumnRe
 abbrev pub IsFit : OperandTyping → Type 0
 IsFit (plain z) = ⊤
 IsFit (typed t) = ⊤
+IsFit null = ⊤
 IsFit unfit = ⊥
 
 -- the type of a call, where its types fit
 abbrev pub IsTypeOf : ColumnType → OperandTyping → Type 0
 IsTypeOf t (plain z) = ⊥
 IsTypeOf t (typed s) = t ≡ s
+IsTypeOf t null = ⊥
 IsTypeOf t unfit = ⊤
 
 -- a call that is placed: it is typed where its types fit, and its type is that of its kind
@@ -144,6 +175,7 @@ over_argument : (types : List ColumnType) (op : AggOp) (e : Expr) (k : OperandTy
     (call_typing op k)
 over_argument types Count e k h is = absurd cc
 over_argument types op e (typed t) h is = search (arith)
+over_argument types op e null h is = absurd is
 over_argument types op e k h is = record { typed = λ f. absurd f; type = tt }
 
 pub call_is_of_kind : (columns : List FromColumn) (call : AggCall ColumnRef) (placed : AggCall ℕ)
@@ -187,6 +219,7 @@ forms-are-sides (cond'.And' p a q b) =
 forms-are-sides (cond'.Or' p a q b) =
     search (arith, map-append, forms-are-sides a, forms-are-sides b)
 forms-are-sides (cond'.Not' p a) = forms-are-sides a
+forms-are-sides (cond'.IsNull a) = refl
 
 module _ (types : List ColumnType) (columns : List FromColumn) (place : ColumnRef → ℕ) where
   -- of operands whose calls stand from column k on: the names are well placed, and the calls have
@@ -204,6 +237,7 @@ module _ (types : List ColumnType) (columns : List FromColumn) (place : ColumnRe
   placed_operand k (operand.Text a) (operand.Text bytes) h is = (tt, refl)
   placed_operand k (operand.Agg call) (operand.Plain (expr.Column c)) h is =
       grind (arith, operand_is_of_kind)
+  placed_operand k operand.Null operand.Null h is = (tt, refl)
   placed_operand k a b h is = absurd is
 
   two_sides : (k : ℕ) (a b : List (Operand ColumnRef)) → ArePlaced k (a ++ b)
@@ -250,6 +284,8 @@ module _ (types : List ColumnType) (columns : List FromColumn) (place : ColumnRe
         cond_is_typed (k + length (flat_map calls_of (cond_operands a))) b d,
       )
   cond_is_typed k (cond'.Not' p a) (cond'.Not' r c) h is fits = cond_is_typed k a c h is fits
+  cond_is_typed k (cond'.IsNull a) (cond'.IsNull c) h is fits =
+      null_test_is_typed types columns a c (placed_operand k a c h is) fits
   cond_is_typed k c p h is fits = absurd is
 
   pub filter_is_typed : (k : ℕ) (f : Option (CondOf ColumnRef)) (p : Option Cond)

@@ -20,14 +20,16 @@ abbrev pub IsNoCall : Operand ColumnRef → Type 0
 IsNoCall (operand.Plain e) = ⊤
 IsNoCall (operand.Text bytes) = ⊤
 IsNoCall (operand.Agg call) = ⊥
+IsNoCall operand.Null = ⊤
 
--- an operand of HAVING: a column, a plain number, a text or a call
+-- an operand of HAVING: a column, a plain number, a text, a call or NULL
 abbrev pub MayBeGroupOperand : Operand ColumnRef → Type 0
 MayBeGroupOperand (operand.Plain (expr.Column c)) = ⊤
 MayBeGroupOperand (operand.Plain (expr.Number n)) = ⊤
 MayBeGroupOperand (operand.Plain (expr.Arith' op p a q b)) = ⊥
 MayBeGroupOperand (operand.Text bytes) = ⊤
 MayBeGroupOperand (operand.Agg call) = ⊤
+MayBeGroupOperand operand.Null = ⊤
 
 abbrev pub takes_argument : AggOp → Bool
 takes_argument Count = false

@@ -46,14 +46,16 @@ IsPlacedCall place a b = (a.op ≡ b.op) × BothOrNone (IsPlaced place) a.arg b.
 abbrev pub IsPlacedOperand : (ColumnRef → ℕ) → Operand ColumnRef → Operand ℕ → Type 0
 IsPlacedOperand place (operand.Plain a) (operand.Plain b) = IsPlaced place a b
 IsPlacedOperand place (operand.Text a) (operand.Text b) = a ≡ b
+IsPlacedOperand place operand.Null operand.Null = Unit {0}
 IsPlacedOperand place _ _ = ⊥
 
--- the operands of a condition's comparisons
+-- the operands of a condition's comparisons and of IS NULL
 unfoldable pub cond_operands : {C : Type 0} → CondOf C → List (Operand C)
 cond_operands (condition.Compare op a b) = a ∷ b ∷ []
 cond_operands (condition.And' p a q b) = cond_operands a ++ cond_operands b
 cond_operands (condition.Or' p a q b) = cond_operands a ++ cond_operands b
 cond_operands (condition.Not' p a) = cond_operands a
+cond_operands (condition.IsNull a) = a ∷ []
 
 abbrev pub operands_of : Option (CondOf ColumnRef) → List (Operand ColumnRef)
 operands_of None = []
@@ -63,6 +65,7 @@ abbrev pub calls_of : Operand ColumnRef → List (AggCall ColumnRef)
 calls_of (operand.Plain e) = []
 calls_of (operand.Text bytes) = []
 calls_of (operand.Agg call) = call ∷ []
+calls_of operand.Null = []
 
 -- an operand of HAVING, where the next call stands in column k
 abbrev pub IsGroupedOperand : (ColumnRef → ℕ) → ℕ → Operand ColumnRef → Operand ℕ → Type 0
@@ -81,6 +84,7 @@ IsPlacedCond place k (condition.Or' p a q b) (condition.Or' r c s d) =
     IsPlacedCond place k a c
     × IsPlacedCond place (k + length (flat_map calls_of (cond_operands a))) b d
 IsPlacedCond place k (condition.Not' p a) (condition.Not' r c) = IsPlacedCond place k a c
+IsPlacedCond place k (condition.IsNull a) (condition.IsNull c) = IsGroupedOperand place k a c
 IsPlacedCond place k _ _ = ⊥
 
 abbrev pub use_of : List Schema → TableRef → TableUse

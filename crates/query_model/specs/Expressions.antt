@@ -1,10 +1,11 @@
 -- The value of an expression and the truth of a condition, at a row.
 use Rattle.std.specs.Prelude.{if◌then◌else◌, ◌&&◌, ◌*ℤ◌, ◌+ℤ◌, ◌-ℤ◌, ◌||◌}
-use Rattle.query_model.specs.Prelude.{Add, ArithOp, Bool, ColumnType, CompareOp, CondOf, ExprOf, List, Mul, None, Number, Operand, Option, Ordering, Row, Some, Sub, Value, [], false, filter, int_cmp, is_eq, is_ge, is_gt, is_le, is_lt, is_ne, neg_ℤ, negsuc, not, pos, text_cmp, value_at, ℕ, ℤ}
-use Rattle.chunk_data.specs.Values.{is_plain_uint, plain_type, type_at}
+use Rattle.query_model.specs.Prelude.{Add, ArithOp, Bool, ColumnType, CompareOp, CondOf, ExprOf, List, Mul, None, Number, Operand, Option, Ordering, Row, Some, Sub, Value, [], false, filter, int_cmp, is_eq, is_ge, is_gt, is_le, is_lt, is_ne, is_null, neg_ℤ, negsuc, not, option_map, pos, text_cmp, true, value_at, ℕ, ℤ}
+use Rattle.chunk_data.specs.Values.{is_nullable, is_plain_uint, nullable_if, plain_type, type_at}
 use Rattle.query_model.specs.Numbers.{exact, is_uint, wrapped}
 use Rattle.chunk_data.specs.declared.typed_value.Value.TheVariants as value
 use Rattle.chunk_data.specs.declared.typed_value.ColumnType.TheVariants as column
+use Rattle.chunk_data.specs.declared.typed_value.PlainType.TheVariants as plain
 use Rattle.query_model.specs.declared.query.CompareOp.TheVariants as compare
 use Rattle.query_model.specs.declared.query.ExprOf.TheVariants as expr
 use Rattle.query_model.specs.declared.query.Operand.TheVariants as operand
@@ -42,10 +43,11 @@ gives_uint Add a b = a && b
 gives_uint Sub a b = false
 gives_uint Mul a b = a && b
 
--- the number of the result's type that equals the exact result modulo 2 ^ 64
+-- NULL where an operand is NULL, else the number of the result's type that equals the exact result
+-- modulo 2 ^ 64
 abbrev pub arith_value : ArithOp → Value → Value → Value
-arith_value op a b =
-    wrapped (gives_uint op (is_uint a) (is_uint b)) (exact_result op (exact a) (exact b))
+arith_value op a b = if is_null a || is_null b then value.Null
+    else wrapped (gives_uint op (is_uint a) (is_uint b)) (exact_result op (exact a) (exact b))
 
 -- the value of an expression at a row
 unfoldable pub value_of : Expr → Row → Value
@@ -56,10 +58,11 @@ value_of (expr.Arith' op p a q b) row = arith_value op (value_of a row) (value_o
 abbrev pub is_uint_column : ColumnType → Bool
 is_uint_column t = is_plain_uint (plain_type t)
 
--- the type of the result of an operator at operands of these types of numbers
+-- the type of the result of an operator at operands of these types of numbers, which may be NULL
+-- where an operand may
 abbrev pub arith_type : ArithOp → ColumnType → ColumnType → ColumnType
-arith_type op s t = if gives_uint op (is_uint_column s) (is_uint_column t) then column.UInt64
-    else column.Int64
+arith_type op s t = nullable_if (is_nullable s || is_nullable t)
+    (if gives_uint op (is_uint_column s) (is_uint_column t) then plain.UInt64 else plain.Int64)
 
 -- the same where the operands' types are one
 abbrev pub result_type : ArithOp → ColumnType → ColumnType
@@ -72,17 +75,24 @@ type_of (expr.Number n) types = number_type (number_of n)
 type_of (expr.Arith' op p a q b) types = arith_type op (type_of a types) (type_of b types)
 
 -- Texts are compared by bytes, and numbers by their exact values. No checked condition compares a
--- text and a number; there the text counts as 0.
+-- text and a number; there the text counts as 0. NULL is never asked for, and counts as 0 too.
 abbrev pub compared : Value → Value → Ordering
 compared (value.Int a) (value.Int b) = int_cmp a b
 compared (value.Int a) (value.UInt b) = int_cmp a (pos b)
 compared (value.Int a) (value.Text b) = int_cmp a (pos 0)
+compared (value.Int a) value.Null = int_cmp a (pos 0)
 compared (value.UInt a) (value.Int b) = int_cmp (pos a) b
 compared (value.UInt a) (value.UInt b) = int_cmp (pos a) (pos b)
 compared (value.UInt a) (value.Text b) = int_cmp (pos a) (pos 0)
+compared (value.UInt a) value.Null = int_cmp (pos a) (pos 0)
 compared (value.Text a) (value.Int b) = int_cmp (pos 0) b
 compared (value.Text a) (value.UInt b) = int_cmp (pos 0) (pos b)
 compared (value.Text a) (value.Text b) = text_cmp a b
+compared (value.Text a) value.Null = int_cmp (pos 0) (pos 0)
+compared value.Null (value.Int b) = int_cmp (pos 0) b
+compared value.Null (value.UInt b) = int_cmp (pos 0) (pos b)
+compared value.Null (value.Text b) = int_cmp (pos 0) (pos 0)
+compared value.Null value.Null = int_cmp (pos 0) (pos 0)
 
 abbrev pub passes : CompareOp → Ordering → Bool
 passes compare.Eq o = is_eq o
@@ -98,18 +108,50 @@ unfoldable pub operand_value : Operand ℕ → Row → Value
 operand_value (operand.Plain e) row = value_of e row
 operand_value (operand.Text bytes) row = value.Text bytes
 operand_value (operand.Agg call) row = value.Text []
+operand_value operand.Null row = value.Null
+
+-- true, false, or NULL where there is none
+abbrev pub Truth : Type 0
+Truth = Option Bool
+
+abbrev pub truth_not : Truth → Truth
+truth_not t = option_map not t
+
+-- false where one side is false, else NULL where one side is NULL
+abbrev pub truth_and : Truth → Truth → Truth
+truth_and (Some false) b = Some false
+truth_and (Some true) b = b
+truth_and None (Some false) = Some false
+truth_and None (Some true) = None
+truth_and None None = None
+
+-- true where one side is true, else NULL where one side is NULL
+abbrev pub truth_or : Truth → Truth → Truth
+truth_or (Some true) b = Some true
+truth_or (Some false) b = b
+truth_or None (Some true) = Some true
+truth_or None (Some false) = None
+truth_or None None = None
+
+-- a comparison with NULL is NULL
+abbrev pub comparison : CompareOp → Value → Value → Truth
+comparison op a b = if is_null a || is_null b then None else Some (passes op (compared a b))
 
 -- the truth of a condition at a row
-unfoldable pub truth_of : Cond → Row → Bool
-truth_of (cond'.Compare op a b) row =
-    passes op (compared (operand_value a row) (operand_value b row))
-truth_of (cond'.And' p a q b) row = truth_of a row && truth_of b row
-truth_of (cond'.Or' p a q b) row = truth_of a row || truth_of b row
-truth_of (cond'.Not' p a) row = not (truth_of a row)
+unfoldable pub truth_of : Cond → Row → Truth
+truth_of (cond'.Compare op a b) row = comparison op (operand_value a row) (operand_value b row)
+truth_of (cond'.And' p a q b) row = truth_and (truth_of a row) (truth_of b row)
+truth_of (cond'.Or' p a q b) row = truth_or (truth_of a row) (truth_of b row)
+truth_of (cond'.Not' p a) row = truth_not (truth_of a row)
+truth_of (cond'.IsNull a) row = Some (is_null (operand_value a row))
+
+abbrev pub is_true : Truth → Bool
+is_true None = false
+is_true (Some b) = b
 
 -- whether a condition is true at a row
 abbrev pub holds : Cond → Row → Bool
-holds c row = truth_of c row
+holds c row = is_true (truth_of c row)
 
 -- the rows at which a condition is true; all rows where there is none
 abbrev pub rows_where : Option Cond → List Row → List Row

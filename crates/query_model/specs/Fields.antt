@@ -1,8 +1,8 @@
 -- The value that a field of a CSV record spells, and what a value is written as.
 use Rattle.std.specs.Prelude.{if◌then◌else◌, ◌&&◌, ◌*◌, ◌+◌, ◌-◌, ◌==◌, ◌^◌, ◌∷◌}
 use Rattle.std.specs.Char.{is_ascii_digit}
-use Rattle.query_model.specs.Prelude.{Bool, ColumnType, Int, List, None, Option, Row, Some, Text, UInt, Value, [], false, fold, list_all, nat_lt, neg_ℤ, option_map, pos, ℕ, ℤ}
-use Rattle.chunk_data.specs.Values.{plain_type}
+use Rattle.query_model.specs.Prelude.{Bool, ColumnType, Int, List, None, Null, Option, Row, Some, Text, UInt, Value, [], bytes_eq, false, fold, list_all, nat_lt, neg_ℤ, option_map, pos, ℕ, ℤ}
+use Rattle.chunk_data.specs.Values.{is_nullable, plain_type}
 use Rattle.chunk_data.specs.declared.typed_value.PlainType.{PlainType}
 use Rattle.chunk_data.specs.declared.typed_value.PlainType.TheVariants as plain
 
@@ -30,9 +30,17 @@ spelled_plain plain.Int64 field = option_map Int (spelled_int field)
 spelled_plain plain.UInt64 field = option_map UInt (numeral_below (2 ^ 64) field)
 spelled_plain plain.Text field = Some (Text field)
 
--- the value of a type that a field spells
+-- how NULL is spelled and written: the two bytes `\N`
+abbrev pub null_text : List ℕ
+null_text = 92 ∷ 78 ∷ []
+
+abbrev pub is_null_text : List ℕ → Bool
+is_null_text field = bytes_eq field null_text
+
+-- the value of a type that a field spells, which is NULL alone by its two bytes, quoted or not
 abbrev pub spelled_value : ColumnType → List ℕ → Option Value
-spelled_value t field = spelled_plain (plain_type t) field
+spelled_value t field = if is_nullable t && is_null_text field then Some Null
+    else spelled_plain (plain_type t) field
 
 -- a value in front of a row, where both are there
 abbrev pub both_spelled : Option Value → Option Row → Option Row

@@ -1,6 +1,6 @@
 -- Groups of rows and their aggregates, and the merge of partial states.
 use Rattle.std.specs.Prelude.{if◌then◌else◌, ◌%◌, ◌++◌, ◌+ℤ◌, ◌+◌, ◌^◌, ◌∷◌}
-use Rattle.query_model.specs.Prelude.{AggCall, AggOp, Bool, ColumnType, Count, ExprOf, List, Max, Min, None, Option, Row, Some, Sum, Text, UInt, Value, [], default_value, false, filter, fold, is_lt, length, list_all, map, not, pos, same_row, take, true, value_at, value_cmp, values_at, ℕ, ℤ}
+use Rattle.query_model.specs.Prelude.{AggCall, AggOp, Bool, ColumnType, Count, ExprOf, List, Max, Min, None, Null, Option, Row, Some, Sum, UInt, Value, [], default_value, false, filter, fold, is_lt, is_null, length, list_all, map, not, pos, same_row, take, true, value_at, value_cmp, values_at, ℕ, ℤ}
 use Rattle.query_model.specs.Numbers.{exact, is_uint, wrapped}
 use Rattle.query_model.specs.Expressions.{value_of, type_of}
 use Rattle.chunk_data.specs.declared.typed_value.ColumnType.TheVariants as column
@@ -15,9 +15,18 @@ lesser a b = if is_lt (value_cmp b a) then b else a
 abbrev pub greater : Value → Value → Value
 greater a b = if is_lt (value_cmp a b) then b else a
 
--- the first, or what a choice of two leaves of all
+-- the values that aren't NULL
+abbrev pub valid_values : List Value → List Value
+valid_values vs = filter (λ v. not (is_null v)) vs
+
+-- the sum of numbers of one type, modulo 2 ^ 64 in this type; NULL of none
+unfoldable pub wrapped_sum : List Value → Value
+wrapped_sum [] = Null
+wrapped_sum (v ∷ vs) = wrapped (list_all is_uint (v ∷ vs)) (exact_sum (v ∷ vs))
+
+-- the first, or what a choice of two leaves of all; NULL of none
 unfoldable pub chosen : (Value → Value → Value) → List Value → Value
-chosen choose [] = Text []
+chosen choose [] = Null
 chosen choose (v ∷ vs) = fold choose v vs
 
 -- What is made of values: their number, their sum, the sum of partial numbers, the least, or the
@@ -43,13 +52,14 @@ merge_of counts_added = counts_added
 merge_of least = least
 merge_of greatest = greatest
 
--- what is made of one or more values; numbers and sums are taken modulo 2 ^ 64
+-- What is made of one or more values; numbers are taken modulo 2 ^ 64. The sum, the least and the
+-- greatest are of those that aren't NULL, and NULL where there is none.
 unfoldable pub combined : Combine → List Value → Value
 combined counted vs = UInt (length vs % 2 ^ 64)
-combined added vs = wrapped (list_all is_uint vs) (exact_sum vs)
+combined added vs = wrapped_sum (valid_values vs)
 combined counts_added vs = wrapped true (exact_sum vs)
-combined least vs = chosen lesser vs
-combined greatest vs = chosen greater vs
+combined least vs = chosen lesser (valid_values vs)
+combined greatest vs = chosen greater (valid_values vs)
 
 -- a combination, and the value of a row that it is over
 pub record Call : Type 0 where
@@ -103,7 +113,7 @@ call_type Count arg types = column.UInt64
 call_type op None types = column.UInt64
 call_type op (Some e) types = type_of e types
 
--- the row of an aggregate query over no rows
+-- the row of an aggregate query over no rows: a call on an argument that may be NULL is NULL
 abbrev pub default_row : List (AggCall ℕ) → List ColumnType → Row
 default_row calls types =
     map (λ (call : AggCall ℕ). default_value (call_type call.op call.arg types)) calls

@@ -2,7 +2,7 @@
 use Rattle.std.specs.Prelude.{◌++◌, ◌≡◌}
 use Rattle.query_model.specs.Prelude.{AggCall, Bool, CheckedJoin, ColumnRef, ExprTyping, ItemKind, Join, List, Option, OrderKey, Schema, Scope, SortKey, bytes_eq, false, find, map, not, option_map, option_or, true, ℕ, ℤ, ⊤}
 use Rattle.query_model.specs.Expressions.{number_of}
-use Rattle.query_model.specs.Refusals.{FromColumn, OperandTyping, plain, typed, unfit, means, written, operand_columns, bare_columns, bare_names, is_key_of, same_column, star_name, first_name, ungrouped_in_items}
+use Rattle.query_model.specs.Refusals.{FromColumn, OperandTyping, null, plain, typed, unfit, means, written, operand_columns, bare_columns, bare_names, is_key_of, same_column, star_name, first_name, ungrouped_in_items}
 use Rattle.query_model.specs.Formulas.{OperandForm}
 use Rattle.query_model.specs.Trees.{QueryTree, items_in}
 use Rattle.query_model.specs.Checks.{place_of, EachWith, IsPlacedCall, pair_of, use_of}
@@ -62,6 +62,7 @@ first_ungrouped columns t =
 abbrev pub as_typing : ExprTyping → OperandTyping
 as_typing (expression.Plain n) = plain (number_of n)
 as_typing (expression.Typed t) = typed t
+as_typing expression.Null = null
 as_typing expression.Unfit = unfit
 
 -- the number of a sign and a size

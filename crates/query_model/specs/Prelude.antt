@@ -1,9 +1,9 @@
 -- The names from outside that this crate's definitions use, in one place.
-pub use Rattle.chunk_data.specs.Values.{Row, Table, default_value, same_row, text_cmp, value_at, value_cmp, values_at}
+pub use Rattle.chunk_data.specs.Values.{Row, Table, default_value, is_null, same_row, text_cmp, value_at, value_cmp, values_at}
 pub use Rattle.chunk_data.specs.declared.typed_value.ColumnType.{ColumnType}
 pub use Rattle.chunk_data.specs.declared.typed_value.SortKey.{SortKey}
 pub use Rattle.chunk_data.specs.declared.typed_value.Value.{Value}
-pub use Rattle.chunk_data.specs.declared.typed_value.Value.TheVariants.{Int, Text, UInt}
+pub use Rattle.chunk_data.specs.declared.typed_value.Value.TheVariants.{Int, Null, Text, UInt}
 pub use Rattle.csv.specs.Reading.{default_config, records, strip_bom}
 pub use Rattle.query_model.specs.declared.analysis.operand_types.ExprTyping.{ExprTyping}
 pub use Rattle.query_model.specs.declared.analysis.placing.Scope.{Scope}

@@ -88,12 +88,14 @@ abbrev pub operand_columns : OperandForm ColumnRef → List ColumnRef
 operand_columns (form.plain e) = expr_columns e
 operand_columns (form.text bytes) = []
 operand_columns (form.call c) = argument_columns c.arg
+operand_columns form.null = []
 
 -- those outside an aggregate call
 abbrev pub bare_columns : OperandForm ColumnRef → List ColumnRef
 bare_columns (form.plain e) = expr_columns e
 bare_columns (form.text bytes) = []
 bare_columns (form.call c) = []
+bare_columns form.null = []
 
 abbrev pub item_columns : ItemWhat → List ColumnRef
 item_columns (tree.plain_item e) = expr_columns e
@@ -170,10 +172,12 @@ bad_join_key left right join = refusal_unless (pairs_fit left right join) refuse
 
 -- types
 
--- what an operand is: a plain number, a value of a type, or neither, where types don't fit
+-- what an operand is: a plain number, a value of a type, NULL, or none of them, where types don't
+-- fit
 pub data OperandTyping : Type 0 where
   plain : ℤ → OperandTyping
   typed : ColumnType → OperandTyping
+  null : OperandTyping
   unfit : OperandTyping
 
 abbrev pub arith_typing : ArithOp → OperandTyping → OperandTyping → OperandTyping
@@ -208,8 +212,9 @@ abbrev pub operand_typing : List FromColumn → OperandForm ColumnRef → Operan
 operand_typing columns (form.plain e) = expr_typing columns e
 operand_typing columns (form.text bytes) = typed column.Text
 operand_typing columns (form.call c) = agg_typing columns c.op c.arg
+operand_typing columns form.null = null
 
--- texts are compared with texts, and numbers with numbers
+-- texts are compared with texts, numbers with numbers, and NULL with all
 abbrev pub comparable : OperandTyping → OperandTyping → Bool
 comparable (typed s) (typed t) = is_text s == is_text t
   where
@@ -220,7 +225,23 @@ comparable (typed s) (typed t) = is_text s == is_text t
 comparable (typed s) (plain z) = not (is_text s)
 comparable (plain z) (typed t) = not (is_text t)
 comparable (plain y) (plain z) = true
+comparable (typed s) null = true
+comparable (plain z) null = true
+comparable null (typed t) = true
+comparable null (plain z) = true
+comparable null null = true
 comparable _ _ = false
+
+abbrev pub is_typed : OperandTyping → Bool
+is_typed (typed t) = true
+is_typed _ = false
+
+-- IS NULL may be asked of what may be NULL, of neither a plain number nor a string
+abbrev pub has_null_test : List FromColumn → OperandForm ColumnRef → Bool
+has_null_test columns (form.plain e) = is_typed (expr_typing columns e)
+has_null_test columns (form.text bytes) = false
+has_null_test columns (form.call c) = is_typed (agg_typing columns c.op c.arg)
+has_null_test columns form.null = true
 
 unfoldable pub cond_fits : List FromColumn → CondForm (OperandForm ColumnRef) → Bool
 cond_fits columns (form.compare op a b) =
@@ -228,14 +249,11 @@ cond_fits columns (form.compare op a b) =
 cond_fits columns (form.both a b) = cond_fits columns a && cond_fits columns b
 cond_fits columns (form.either a b) = cond_fits columns a && cond_fits columns b
 cond_fits columns (form.negated a) = cond_fits columns a
+cond_fits columns (form.null_test a) = has_null_test columns a
 
 abbrev pub fits_where : List FromColumn → Option (CondForm (OperandForm ColumnRef)) → Bool
 fits_where columns None = true
 fits_where columns (Some c) = cond_fits columns c
-
-abbrev pub is_typed : OperandTyping → Bool
-is_typed (typed t) = true
-is_typed _ = false
 
 abbrev pub item_typing : List FromColumn → ItemWhat → OperandTyping
 item_typing columns (tree.plain_item e) = expr_typing columns e
@@ -338,6 +356,7 @@ abbrev pub operand_calls : OperandForm ColumnRef → ℕ
 operand_calls (form.plain e) = 0
 operand_calls (form.text bytes) = 0
 operand_calls (form.call c) = 1
+operand_calls form.null = 0
 
 abbrev pub total : List ℕ → ℕ
 total [] = 0

@@ -1,6 +1,6 @@
 -- The rows that a query reads: a table's, or those of two joined tables.
-use Rattle.std.specs.Prelude.{◌&&◌, ◌++◌, ◌∷◌}
-use Rattle.query_model.specs.Prelude.{Bool, Checked, CheckedJoin, Declared, KeyPair, List, None, Numbers, Option, Row, Some, Table, TableUse, UInt, Value, [], filter, flat_map, is_eq, map, slice_index_or, suc, true, value_at, value_cmp, zero, ℕ}
+use Rattle.std.specs.Prelude.{◌&&◌, ◌++◌, ◌||◌, ◌∷◌}
+use Rattle.query_model.specs.Prelude.{Bool, Checked, CheckedJoin, Declared, KeyPair, List, None, Numbers, Option, Row, Some, Table, TableUse, UInt, Value, [], filter, flat_map, is_eq, is_null, map, not, slice_index_or, suc, true, value_at, value_cmp, zero, ℕ}
 use Rattle.query_model.specs.Expressions.{rows_where}
 use Rattle.chunk_data.specs.declared.typed_value.ColumnType.TheVariants as column
 
@@ -21,9 +21,9 @@ abbrev pub used_table : Database → TableUse → Table
 used_table db (Declared t) = slice_index_or db t (record { types = []; rows = [] })
 used_table db (Numbers n) = numbers n
 
--- two values agree where they are equal
+-- two values agree where neither is NULL and they are equal
 abbrev pub values_agree : Value → Value → Bool
-values_agree a b = is_eq (value_cmp a b)
+values_agree a b = not (is_null a || is_null b) && is_eq (value_cmp a b)
 
 -- two rows agree on every pair of columns
 abbrev pub agree : List KeyPair → Row → Row → Bool

@@ -1,6 +1,7 @@
 -- The text of an answer.
 use Rattle.std.specs.Prelude.{if◌then◌else◌, ◌++◌, ◌==◌, ◌∷◌}
-use Rattle.query_model.specs.Prelude.{Bool, Int, List, Row, Text, UInt, Value, [], decimal, false, flat_map, join_with_byte, map, signed_decimal, suc, take, true, zero, ℕ}
+use Rattle.query_model.specs.Prelude.{Bool, Int, List, Null, Row, Text, UInt, Value, [], decimal, false, flat_map, join_with_byte, map, signed_decimal, suc, take, true, zero, ℕ}
+use Rattle.query_model.specs.Fields.{null_text}
 
 -- a byte inside of quotes: a quote is doubled
 abbrev pub doubled : ℕ → List ℕ
@@ -14,6 +15,7 @@ abbrev pub value_text : Value → List ℕ
 value_text (Int z) = signed_decimal z
 value_text (UInt n) = decimal n
 value_text (Text bytes) = quoted bytes
+value_text Null = null_text
 
 -- the values with commas between them, and a line feed
 abbrev pub row_text : Row → List ℕ

@@ -60,20 +60,34 @@ abbrev pub operand_type : Operand ℕ → List ColumnType → ColumnType
 operand_type (operand.Plain e) types = type_of e types
 operand_type (operand.Text bytes) types = column.Text
 operand_type (operand.Agg call) types = column.Text
+operand_type operand.Null types = column.NullText
 
 -- an aggregate call stands in no checked condition
 abbrev pub IsTypedOperand : List ColumnType → Operand ℕ → Type 0
 IsTypedOperand types (operand.Plain e) = IsTyped types e
 IsTypedOperand types (operand.Text bytes) = Unit {0}
 IsTypedOperand types (operand.Agg call) = ⊥
+IsTypedOperand types operand.Null = Unit {0}
 
--- the condition is typed by the columns' types: a comparison is of two numbers or of two texts
+abbrev pub is_null_operand : Operand ℕ → Bool
+is_null_operand (operand.Plain e) = false
+is_null_operand (operand.Text bytes) = false
+is_null_operand (operand.Agg call) = false
+is_null_operand operand.Null = true
+
+-- a comparison is of two numbers, of two texts, or with NULL
+abbrev pub AreComparable : List ColumnType → Operand ℕ → Operand ℕ → Type 0
+AreComparable types a b = is_null_operand a ≡ false → is_null_operand b ≡ false
+    → is_text (operand_type a types) ≡ is_text (operand_type b types)
+
+-- the condition is typed by the columns' types
 abbrev pub IsTypedCond : List ColumnType → Cond → Type 0
 IsTypedCond types (cond'.Compare op a b) = IsTypedOperand types a × IsTypedOperand types b
-    × (is_text (operand_type a types) ≡ is_text (operand_type b types))
+    × AreComparable types a b
 IsTypedCond types (cond'.And' p a q b) = IsTypedCond types a × IsTypedCond types b
 IsTypedCond types (cond'.Or' p a q b) = IsTypedCond types a × IsTypedCond types b
 IsTypedCond types (cond'.Not' p a) = IsTypedCond types a
+IsTypedCond types (cond'.IsNull a) = IsTypedOperand types a
 
 -- `count` is over nothing, and each other call over what an item may be; texts have no sum
 abbrev pub IsTypedArgument : List ColumnType → AggOp → Option Expr → Type 0

@@ -50,10 +50,11 @@ pub fn arith_type(op: ArithOp, s: ColumnType, t: ColumnType) -> ColumnType
 {
     let left = matches!(s.plain(), PlainType::UInt64);
     let right = matches!(t.plain(), PlainType::UInt64);
+    let nullable = s.is_nullable() || t.is_nullable();
     if results_in_uint(op, left, right) {
-        ColumnType::UInt64
+        PlainType::UInt64.nullable_if(nullable)
     } else {
-        ColumnType::Int64
+        PlainType::Int64.nullable_if(nullable)
     }
 }
 
@@ -104,6 +105,9 @@ pub fn can_hold(kind: ColumnType, n: Number) -> bool
     }
 }
 
+/// How NULL is spelled and written.
+pub const NULL_TEXT: &[u8] = b"\\N";
+
 /// Adds a byte as it stands inside of quotes.
 fn push_quoted(text: &mut Vec<u8>, byte: u8) -> Result<(), Memory>
     ensures { OnOk result (text.new.items ≡ text.old.items ++ doubled byte) }
@@ -135,6 +139,7 @@ pub fn value_text(alloc: Global, value: &Value) -> Result<Vec<u8>, Memory>
         Value::Int(number) => Ok(format!(in alloc; "{number}")?.into_bytes()),
         Value::UInt(number) => Ok(format!(in alloc; "{number}")?.into_bytes()),
         Value::Text(bytes) => quoted_text(alloc, bytes.as_slice()),
+        Value::Null => Ok(Vec::from_slice(alloc, NULL_TEXT)?),
     }
 }
 

@@ -64,15 +64,17 @@ pub enum Operand<C> {
     Plain(ExprOf<C>),
     Text(Bytes),
     Agg(AggCall<C>),
+    Null,
 }
 
-/// A condition on rows.
+/// A condition on rows; `x IS NOT NULL` is `Not(IsNull(x))`.
 #[derive(Drop)]
 pub enum CondOf<C> {
     Compare(CompareOp, Operand<C>, Operand<C>),
     And(Box<CondOf<C>>, Box<CondOf<C>>),
     Or(Box<CondOf<C>>, Box<CondOf<C>>),
     Not(Box<CondOf<C>>),
+    IsNull(Operand<C>),
 }
 
 /// What an item of SELECT is.

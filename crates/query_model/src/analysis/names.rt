@@ -165,7 +165,7 @@ fn push_operand_names(
 {
     match operand {
         Operand::Plain(e) => push_expr_names(e, names),
-        Operand::Text(_) => Ok(()),
+        Operand::Text(_) | Operand::Null => Ok(()),
         Operand::Agg(call) => {
             if in_calls {
                 push_call_names(call, names)
@@ -195,6 +195,7 @@ fn push_cond_names(
             push_cond_names(in_calls, b, names)
         }
         CondOf::Not(a) => push_cond_names(in_calls, a, names),
+        CondOf::IsNull(a) => push_operand_names(in_calls, a, names),
     }
 }
 

@@ -1,7 +1,7 @@
 // What expressions are, and whether types fit.
 ghost use Rattle.std.specs.Prelude.{◌≡◌, option_map};
 ghost use Rattle.std.specs.List.{list_all};
-ghost use Rattle.query_model.specs.Names.{number_of, arith_typing as typing_of_arith, known_typing as typing_known, expr_typing as typing_of_expr, call_typing as typing_of_call, agg_typing as typing_of_agg, operand_typing as typing_of_operand, item_typing as typing_of_item, comparable as are_comparable, cond_fits as fits, fits_where, is_typed as has_type, argument_form, as_typing, cond_form, formula, item_what, query_tree, operand_form, types_fit as all_types_fit};
+ghost use Rattle.query_model.specs.Names.{number_of, arith_typing as typing_of_arith, known_typing as typing_known, expr_typing as typing_of_expr, call_typing as typing_of_call, agg_typing as typing_of_agg, operand_typing as typing_of_operand, item_typing as typing_of_item, comparable as are_comparable, has_null_test as may_be_tested, cond_fits as fits, fits_where, is_typed as has_type, argument_form, as_typing, cond_form, formula, item_what, query_tree, operand_form, types_fit as all_types_fit};
 
 use crate::analysis::columns::FromColumn;
 use crate::analysis::names::{listed_items, meant_type};
@@ -11,11 +11,13 @@ use crate::query::{
 };
 use chunk_data::ColumnType;
 
-/// What an expression is: a plain number, a value of a type, or neither, where types don't fit.
+/// What an operand is: a plain number, a value of a type, NULL, or none of them, where types don't
+/// fit.
 #[derive(Clone, Copy, PartialEq, Eq)]
 pub(crate) enum ExprTyping {
     Plain(Number),
     Typed(ColumnType),
+    Null,
     Unfit,
 }
 
@@ -48,13 +50,13 @@ fn arith_typing(op: ArithOp, a: ExprTyping, b: ExprTyping) -> ExprTyping
         ExprTyping::Typed(s) => match b {
             ExprTyping::Typed(t) => typed_arith(op, s, t),
             ExprTyping::Plain(n) => arith_beside(op, s, n),
-            ExprTyping::Unfit => ExprTyping::Unfit,
+            ExprTyping::Null | ExprTyping::Unfit => ExprTyping::Unfit,
         },
         ExprTyping::Plain(n) => match b {
             ExprTyping::Typed(t) => arith_beside(op, t, n),
-            ExprTyping::Plain(_) | ExprTyping::Unfit => ExprTyping::Unfit,
+            ExprTyping::Plain(_) | ExprTyping::Null | ExprTyping::Unfit => ExprTyping::Unfit,
         },
-        ExprTyping::Unfit => ExprTyping::Unfit,
+        ExprTyping::Null | ExprTyping::Unfit => ExprTyping::Unfit,
     }
 }
 
@@ -89,7 +91,7 @@ fn call_typing(op: AggOp, argument: ExprTyping) -> ExprTyping
         AggOp::Count => ExprTyping::Typed(ColumnType::UInt64),
         AggOp::Sum => match argument {
             ExprTyping::Typed(t) => summed_typing(t),
-            ExprTyping::Plain(_) | ExprTyping::Unfit => ExprTyping::Unfit,
+            ExprTyping::Plain(_) | ExprTyping::Null | ExprTyping::Unfit => ExprTyping::Unfit,
         },
         AggOp::Min | AggOp::Max => typed_or_unfit(argument),
     }
@@ -111,7 +113,7 @@ fn typed_or_unfit(kind: ExprTyping) -> ExprTyping
 {
     match kind {
         ExprTyping::Typed(t) => ExprTyping::Typed(t),
-        ExprTyping::Plain(_) | ExprTyping::Unfit => ExprTyping::Unfit,
+        ExprTyping::Plain(_) | ExprTyping::Null | ExprTyping::Unfit => ExprTyping::Unfit,
     }
 }
 
@@ -132,10 +134,23 @@ fn operand_typing(operand: &Operand<ColumnRef>, columns: &[FromColumn]) -> ExprT
         Operand::Plain(e) => expr_typing(e, columns),
         Operand::Text(_) => ExprTyping::Typed(ColumnType::Text),
         Operand::Agg(call) => agg_typing(call, columns),
+        Operand::Null => ExprTyping::Null,
     }
 }
 
-/// Whether the two may be compared: texts with texts, and numbers with numbers.
+/// Whether IS NULL may be asked of the operand, which is neither a plain number nor a string.
+fn has_null_test(operand: &Operand<ColumnRef>, columns: &[FromColumn]) -> bool
+    ensures { result ≡ may_be_tested columns.now (operand_form operand.now) }
+{
+    match operand {
+        Operand::Plain(e) => is_typed(expr_typing(e, columns)),
+        Operand::Text(_) => false,
+        Operand::Agg(call) => is_typed(agg_typing(call, columns)),
+        Operand::Null => true,
+    }
+}
+
+/// Whether the two may be compared: texts with texts, numbers with numbers, and NULL with all.
 fn comparable(a: ExprTyping, b: ExprTyping) -> bool
     ensures { result ≡ are_comparable (as_typing a) (as_typing b) }
 {
@@ -143,11 +158,16 @@ fn comparable(a: ExprTyping, b: ExprTyping) -> bool
         ExprTyping::Typed(s) => match b {
             ExprTyping::Typed(t) => s.is_text() == t.is_text(),
             ExprTyping::Plain(_) => !s.is_text(),
+            ExprTyping::Null => true,
             ExprTyping::Unfit => false,
         },
         ExprTyping::Plain(_) => match b {
             ExprTyping::Typed(t) => !t.is_text(),
-            ExprTyping::Plain(_) => true,
+            ExprTyping::Plain(_) | ExprTyping::Null => true,
+            ExprTyping::Unfit => false,
+        },
+        ExprTyping::Null => match b {
+            ExprTyping::Typed(_) | ExprTyping::Plain(_) | ExprTyping::Null => true,
             ExprTyping::Unfit => false,
         },
         ExprTyping::Unfit => false,
@@ -166,6 +186,7 @@ fn cond_fits(cond: &CondOf<ColumnRef>, columns: &[FromColumn]) -> bool
         }
         CondOf::And(a, b) | CondOf::Or(a, b) => cond_fits(a, columns) && cond_fits(b, columns),
         CondOf::Not(a) => cond_fits(a, columns),
+        CondOf::IsNull(a) => has_null_test(a, columns),
     }
 }
 

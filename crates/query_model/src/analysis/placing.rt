@@ -171,6 +171,7 @@ fn place_operand(
             let place = add_call(alloc, call, columns, keys.len(), calls)?;
             Ok(Operand::Plain(ExprOf::Column(place)))
         }
+        Operand::Null => Ok(Operand::Null),
     }
 }
 
@@ -198,6 +199,28 @@ fn place_comparison(
     let left = place_operand(alloc, scope, a, columns, keys, calls)?;
     let right = place_operand(alloc, scope, b, columns, keys, calls)?;
     Ok(CondOf::Compare(op, left, right))
+}
+
+// IS NULL with places, apart from the recursion as well.
+#[inline(never)]
+#[tactic(auto, unfolding(crate::specs::Checks::cond_operands))]
+fn place_null_test(
+    alloc: Global,
+    scope: Scope,
+    operand: &Operand<ColumnRef>,
+    columns: &[FromColumn],
+    keys: &[ColumnRef],
+    calls: &mut Vec<AggCall<u32>>,
+) -> Result<Cond, Memory>
+    requires few { length columns.now ≤ 64 }
+    requires few_keys { length keys.now ≤ 64 }
+    ensures placed { IfOk result (IsPlacedCond (place_by scope columns.now keys.now)
+        (length keys.now + length calls.old.items) (condition.IsNull operand.now)) }
+    ensures added { OnOk result (AreAdded columns.now (flat_map calls_of
+        (cond_operands (condition.IsNull operand.now))) calls.old.items calls.new.items) }
+{
+    let placed = place_operand(alloc, scope, operand, columns, keys, calls)?;
+    Ok(CondOf::IsNull(placed))
 }
 
 /// The condition with places. Its calls go behind those that stand, and their places in its place.
@@ -239,6 +262,7 @@ fn place_cond(
             let inner = place_cond(alloc, scope, a, columns, keys, calls)?;
             Ok(CondOf::Not(boxed_cond(alloc, inner)?))
         }
+        CondOf::IsNull(a) => place_null_test(alloc, scope, a, columns, keys, calls),
     }
 }
 

@@ -49,7 +49,7 @@ fn count_operand_calls(operand: &Operand<ColumnRef>) -> usize
     ensures { result ≡ operand_calls (operand_form operand.now) }
 {
     match operand {
-        Operand::Plain(_) | Operand::Text(_) => 0,
+        Operand::Plain(_) | Operand::Text(_) | Operand::Null => 0,
         Operand::Agg(_) => 1,
     }
 }
@@ -63,6 +63,7 @@ fn count_cond_calls(cond: &CondOf<ColumnRef>) -> Result<usize, Memory>
         CondOf::Compare(_, a, b) => added(count_operand_calls(a), count_operand_calls(b)),
         CondOf::And(a, b) | CondOf::Or(a, b) => added(count_cond_calls(a)?, count_cond_calls(b)?),
         CondOf::Not(a) => count_cond_calls(a),
+        CondOf::IsNull(a) => Ok(count_operand_calls(a)),
     }
 }
 
