@@ -13,7 +13,7 @@ pub use Rattle.query_model.specs.declared.query.TableDecl.{TableDecl}
 pub use Rattle.sql_grammar.specs.Tokens.{begins_with_letter, is_word_byte}
 pub use Rattle.std.proofs.Common.{Bool, List, None, Option, Some, [], ap, append_assoc, ap₂, arith, cond, drop, drop_at, eq-eqb, eqb-true, false, get_or, if◌then◌else◌, inl, inr, length, map, map-id, nat_le, ne_eqb, not, option_and_then, refl, rules, subst, sym, take, tests, true, ℕ, ◌&&◌, ◌++◌, ◌+◌, ◌<◌, ◌==◌, ◌^◌, ◌||◌, ◌∙◌, ◌∷◌, ◌≡◌, ◌≤◌}
 pub use Rattle.std.proofs.Math.Seq.{take-append_seam}
-pub use Rattle.std.proofs.lemmas.Bool.{and_parts, cases_lt, not-true}
+pub use Rattle.std.proofs.lemmas.Bool.{and_parts, cases_lt, not-true, or_parts}
 pub use Rattle.std.proofs.lemmas.Bool.Decides.{nat_tests}
 pub use Rattle.std.proofs.lemmas.Iterator.{YieldsList-from_slice}
 pub use Rattle.std.proofs.lemmas.Iterator.Search.{all_from_yields_List, any_from_yields_List}

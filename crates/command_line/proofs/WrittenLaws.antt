@@ -1,5 +1,5 @@
 -- Tables are read from exactly what they are written as.
-use Rattle.command_line.proofs.Imports.{All, All-head, All-map, All-weaker, AreFew, AreParts, Bool, ColumnDecl, ColumnType, Declares, IsColumnDecl, IsPath, IsTableDecl, List, ListFile, None, Option, PartsDecl, Paths, Some, TableDecl, [], after_first, all_read, ap, ap₂, arith, before_first, bytes_eq, bytes_eq-Decides, column_of, column_text, column_with, columns_of, eqb-true, false, if◌then◌else◌, is_name, is_plain_path, is_path_byte, is_word_byte, join_with_byte, length, list_all, map, not, option_map, parts_spelled, parts_text, path_of, pieces_of, refl, subst, sym, table_if, table_of, table_text, table_with, tables_of, true, type_named, type_text, ℕ, ◌&&◌, ◌++◌, ◌==◌, ◌∙◌, ◌∷◌, ◌≡◌, ◌≤◌, none-some, same_Some, cond_some, and_parts, not-true, map-id, append-nil, begins_with_letter}
+use Rattle.command_line.proofs.Imports.{All, All-head, All-map, All-weaker, AreFew, AreParts, Bool, ColumnDecl, ColumnType, Declares, IsColumnDecl, IsPath, IsTableDecl, List, ListFile, None, Option, PartsDecl, Paths, Some, TableDecl, [], after_first, all_read, ap, ap₂, arith, before_first, bytes_eq, bytes_eq-Decides, column_of, column_text, column_with, columns_of, eqb-true, false, if◌then◌else◌, is_name, is_plain_path, is_path_byte, is_word_byte, join_with_byte, length, list_all, map, not, option_map, parts_spelled, parts_text, path_of, pieces_of, refl, subst, sym, table_if, table_of, table_text, table_with, tables_of, true, type_named, type_text, ℕ, ◌&&◌, ◌++◌, ◌==◌, ◌∙◌, ◌∷◌, ◌≡◌, ◌≤◌, none-some, same_Some, cond_some, and_parts, not-true, map-id, append-nil, begins_with_letter, or_parts, ◌||◌}
 use Rattle.chunk_data.specs.declared.typed_value.ColumnType.TheVariants as column
 use Rattle.command_line.proofs.Cuts.{Lacks, after_at, before_at, cut_at, lacks_both, lacks_by, lacks_joined, lacks_more}
 use Rattle.command_line.proofs.Readings.{few_whole, few_written, mapped_is_some, pieces_whole, pieces_written}
@@ -28,17 +28,28 @@ module _ (text : List ℕ) (kind : ColumnType) where
 
   type_read : type_named text ≡ Some kind → type_text kind ≡ text
   type_read = named_by column.Int64 _ (named_by column.UInt64 _
-      (named_by column.Text None (λ e. absurd (none-some kind e))))
+      (named_by column.Text _ (named_by column.NullInt64 _ (named_by column.NullUInt64 _
+      (named_by column.NullText None (λ e. absurd (none-some kind e)))))))
 
 type_whole : (kind : ColumnType) → type_named (type_text kind) ≡ Some kind
 type_whole column.Int64 = refl
 type_whole column.UInt64 = refl
 type_whole column.Text = refl
+type_whole column.NullInt64 = refl
+type_whole column.NullUInt64 = refl
+type_whole column.NullText = refl
 
-type_lacks : (s : ℕ) (kind : ColumnType) → is_word_byte s ≡ false → Lacks s (type_text kind)
-type_lacks s column.Int64 f = lacks_by is_word_byte s (type_text column.Int64) f refl
-type_lacks s column.UInt64 f = lacks_by is_word_byte s (type_text column.UInt64) f refl
-type_lacks s column.Text f = lacks_by is_word_byte s (type_text column.Text) f refl
+-- a byte of a word or a parenthesis
+abbrev is_type_byte : ℕ → Bool
+is_type_byte b = is_word_byte b || ((b == 40) || (b == 41))
+
+type_lacks : (s : ℕ) (kind : ColumnType) → is_type_byte s ≡ false → Lacks s (type_text kind)
+type_lacks s column.Int64 f = lacks_by is_type_byte s (type_text column.Int64) f refl
+type_lacks s column.UInt64 f = lacks_by is_type_byte s (type_text column.UInt64) f refl
+type_lacks s column.Text f = lacks_by is_type_byte s (type_text column.Text) f refl
+type_lacks s column.NullInt64 f = lacks_by is_type_byte s (type_text column.NullInt64) f refl
+type_lacks s column.NullUInt64 f = lacks_by is_type_byte s (type_text column.NullUInt64) f refl
+type_lacks s column.NullText f = lacks_by is_type_byte s (type_text column.NullText) f refl
 
 column_read : (text : List ℕ) (c : ColumnDecl) → column_of text ≡ Some c
     → IsColumnDecl c × (column_text c ≡ text)
@@ -66,11 +77,12 @@ column_whole c good =
     ∙ ap (column_with c.name) (type_whole c.kind)
     ∙ ap (λ (b : Bool). if b then Some c else None) good
 
-column_lacks : (s : ℕ) → is_word_byte s ≡ false → (32 == s) ≡ false → (c : ColumnDecl)
+column_lacks : (s : ℕ) → is_type_byte s ≡ false → (32 == s) ≡ false → (c : ColumnDecl)
     → IsColumnDecl c → Lacks s (column_text c)
-column_lacks s word space c good =
+column_lacks s byte space c good =
+    let word : is_word_byte s ≡ false = (or_parts (is_word_byte s) _ byte).0 in
     lacks_both s c.name (32 ∷ type_text c.kind) (name_lacks s c.name word good)
-    (lacks_more s 32 (type_text c.kind) space (type_lacks s c.kind word))
+    (lacks_more s 32 (type_text c.kind) space (type_lacks s c.kind byte))
 
 -- ---- parts
 
@@ -152,13 +164,13 @@ parts_lack s f plus at (ListFile path) good = lacks_more s 64 path at (path_lack
 
 -- ---- tables
 
-columns_lack : (s : ℕ) → is_word_byte s ≡ false → (32 == s) ≡ false → (44 == s) ≡ false
+columns_lack : (s : ℕ) → is_type_byte s ≡ false → (32 == s) ≡ false → (44 == s) ≡ false
     → (columns : List ColumnDecl) → All IsColumnDecl columns
     → Lacks s (join_with_byte 44 (map column_text columns))
-columns_lack s word space comma columns h =
+columns_lack s byte space comma columns h =
     lacks_joined s 44 (map column_text columns) comma
     (All-map (Lacks s) column_text columns (All-weaker IsColumnDecl (λ c. Lacks s (column_text c))
-    (column_lacks s word space) columns h))
+    (column_lacks s byte space) columns h))
 
 abbrev columns_text : List ColumnDecl → List ℕ
 columns_text columns = join_with_byte 44 (map column_text columns)

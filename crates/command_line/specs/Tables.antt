@@ -21,6 +21,9 @@ type_named text =
     if bytes_eq text (codes "Int64") then Some column.Int64
     else if bytes_eq text (codes "UInt64") then Some column.UInt64
     else if bytes_eq text (codes "String") then Some column.Text
+    else if bytes_eq text (codes "Nullable(Int64)") then Some column.NullInt64
+    else if bytes_eq text (codes "Nullable(UInt64)") then Some column.NullUInt64
+    else if bytes_eq text (codes "Nullable(String)") then Some column.NullText
     else None
 
 abbrev pub column_with : List ℕ → Option ColumnType → Option ColumnDecl

@@ -15,6 +15,9 @@ abbrev pub type_text : ColumnType → List ℕ
 type_text column.Int64 = codes "Int64"
 type_text column.UInt64 = codes "UInt64"
 type_text column.Text = codes "String"
+type_text column.NullInt64 = codes "Nullable(Int64)"
+type_text column.NullUInt64 = codes "Nullable(UInt64)"
+type_text column.NullText = codes "Nullable(String)"
 
 -- a name, one space and a type
 abbrev pub column_text : ColumnDecl → List ℕ

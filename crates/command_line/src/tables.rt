@@ -212,6 +212,12 @@ fn type_named(text: &[u8]) -> Option<ColumnType>
         Some(ColumnType::UInt64)
     } else if text == b"String".as_slice() {
         Some(ColumnType::Text)
+    } else if text == b"Nullable(Int64)".as_slice() {
+        Some(ColumnType::NullInt64)
+    } else if text == b"Nullable(UInt64)".as_slice() {
+        Some(ColumnType::NullUInt64)
+    } else if text == b"Nullable(String)".as_slice() {
+        Some(ColumnType::NullText)
     } else {
         None
     }

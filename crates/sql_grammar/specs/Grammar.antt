@@ -2,7 +2,7 @@
 -- rest` says that the tokens ts begin with a spelling of the term e, and that rest is what follows
 -- it.
 use Rattle.std.specs.Prelude.{◌≡◌, ℕ, true, false, List, [], ◌∷◌, Option, Some, None, codes}
-use Rattle.sql_grammar.specs.QueryTypes.{AggOp, CallTree, ColumnRef, CompareOp, CondForm, Condition, Expression, ItemTree, ItemWhat, Join, NamePair, OrderKey, Query, QueryOperand, QueryTree, Selection, Span, TableRef, arith, both, call, call_item, column, compare, either, listed, negated, number, plain, plain_item, query_tree, star, text}
+use Rattle.sql_grammar.specs.QueryTypes.{AggOp, CallTree, ColumnRef, CompareOp, CondForm, Condition, Expression, ItemTree, ItemWhat, Join, NamePair, OrderKey, Query, QueryOperand, QueryTree, Selection, Span, TableRef, arith, both, call, call_item, column, compare, either, listed, negated, null, null_test, number, plain, plain_item, query_tree, star, text}
 use Rattle.query_model.specs.declared.query.ArithOp.TheVariants as op
 use Rattle.query_model.specs.declared.query.AggOp.TheVariants as agg
 use Rattle.query_model.specs.declared.query.CompareOp.TheVariants as order
@@ -67,12 +67,13 @@ pub data IsAgg : CallTree → Tokens → Tokens → Type 0 where
       ≡ Some op → has_argument op ≡ true → IsExpr e ts (token.Sign sign.Close ∷ rest)
       → IsAgg (record { op = op; arg = Some e }) (token.Name w ∷ token.Sign sign.Open ∷ ts) rest
 
--- operand = expr | string
+-- operand = expr | string | NULL
 pub data IsOperand : QueryOperand → Tokens → Tokens → Type 0 where
   an_expr : {e : Expression} {ts rest : Tokens} → IsExpr e ts rest → IsOperand (plain e) ts rest
   a_string : {t : List ℕ} {rest : Tokens} → IsOperand (text t) (token.Text t ∷ rest) rest
+  a_null : {rest : Tokens} → IsOperand null (token.Keyword keyword.Null ∷ rest) rest
 
--- operand of HAVING = column | agg | number | "-" number | string
+-- operand of HAVING = column | agg | number | "-" number | string | NULL
 pub data IsGroupOperand : QueryOperand → Tokens → Tokens → Type 0 where
   a_key : {c : ColumnRef} {ts rest : Tokens} → IsColumn c ts rest
       → IsGroupOperand (plain (column c)) ts rest
@@ -83,6 +84,7 @@ pub data IsGroupOperand : QueryOperand → Tokens → Tokens → Type 0 where
       → IsGroupOperand (plain (number (record { negative = true; size = n })))
       (token.Sign sign.Minus ∷ token.Number n ∷ rest) rest
   a_text : {t : List ℕ} {rest : Tokens} → IsGroupOperand (text t) (token.Text t ∷ rest) rest
+  a_null_constant : {rest : Tokens} → IsGroupOperand null (token.Keyword keyword.Null ∷ rest) rest
 
 -- op = "=" | "==" | "!=" | "<>" | "<" | "<=" | ">" | ">="
 pub data IsComparison : CompareOp → Sign → Type 0 where
@@ -93,8 +95,8 @@ pub data IsComparison : CompareOp → Sign → Type 0 where
   greater : IsComparison order.Gt sign.Greater
   greater_equal : IsComparison order.Ge sign.GreaterEqual
 
--- Conditions, over any sides of comparisons and a relation of what spells them: WHERE and HAVING
--- have each its own.
+-- Conditions, over any operands and a relation of what spells them: WHERE and HAVING have each its
+-- own.
 mutual
   -- cond = conj {OR conj}
   pub data IsCond {S : Type 0} (Op : S → Tokens → Tokens → Type 0) : CondForm S → Tokens → Tokens
@@ -112,7 +114,7 @@ mutual
         → IsConj Op a ts (token.Keyword keyword.And ∷ mid) → IsNeg Op b mid rest
         → IsConj Op (both a b) ts rest
 
-  -- neg = NOT neg | "(" cond ")" | operand op operand
+  -- neg = NOT neg | "(" cond ")" | operand op operand | operand IS [NOT] NULL
   pub data IsNeg {S : Type 0} (Op : S → Tokens → Tokens → Type 0) : CondForm S → Tokens → Tokens
       → Type 0 where
     negation : {c : CondForm S} {ts rest : Tokens} → IsNeg Op c ts rest
@@ -123,6 +125,12 @@ mutual
     comparison : {o : CompareOp} {s : Sign} {a b : S} {ts mid rest : Tokens}
         → Op a ts (token.Sign s ∷ mid) → IsComparison o s → Op b mid rest
         → IsNeg Op (compare o a b) ts rest
+    is_null : {a : S} {ts rest : Tokens}
+        → Op a ts (token.Keyword keyword.Is ∷ token.Keyword keyword.Null ∷ rest)
+        → IsNeg Op (null_test a) ts rest
+    is_not_null : {a : S} {ts rest : Tokens}
+        → Op a ts (token.Keyword keyword.Is ∷ token.Keyword keyword.Not ∷ token.Keyword keyword.Null
+        ∷ rest) → IsNeg Op (negated (null_test a)) ts rest
 
 -- x {separator x}
 pub data AreListed {X : Type 0} (Is : X → Tokens → Tokens → Type 0) (separator : Token) : List X

@@ -1,5 +1,5 @@
 -- The types of queries that the model has, in one place.
-pub use Rattle.query_model.specs.Formulas.{CallForm, CondForm, Formula, OperandForm, arith, both, call, column, compare, either, negated, number, plain, text}
+pub use Rattle.query_model.specs.Formulas.{CallForm, CondForm, Formula, OperandForm, arith, both, call, column, compare, either, negated, null, null_test, number, plain, text}
 pub use Rattle.query_model.specs.Trees.{ItemTree, ItemWhat, QueryTree, Selection, call_item, item_tree, listed, plain_item, query_tree, star}
 pub use Rattle.query_model.specs.declared.query.AggOp.{AggOp}
 pub use Rattle.query_model.specs.declared.query.ColumnRef.{ColumnRef}

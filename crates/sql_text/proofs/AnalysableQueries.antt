@@ -1,7 +1,7 @@
 -- What analysis asks of a query holds of each query that is read: WHERE has no call, HAVING has the
 -- operands of groups, and each call has its argument.
-use Rattle.sql_text.proofs.Imports.{◌≡◌, List, [], ◌∷◌, map, flat_map, Option, None, Some, option_map, is_some, All, All-nil, All-cons, All-head, All-tail, All-append, All-weaker, operands_of, item_calls, calls_of, IsNoCall, HasItsArgument, IsAnalysable, AggCall, ColumnRef, CondOf, ExprOf, Operand, Item, Items, Query, CallTree, QueryOperand, Condition, ItemTree, ItemWhat, Selection, QueryTree, item_tree, Tokens, IsAgg, IsOperand, IsGroupOperand as IsGroupSide, IsCond, one_conj, disjunction, IsConj, one_neg, conjunction, IsNeg, negation, enclosed_cond, comparison, AreListed, last_one, one_more, IsSelectItem, IsSelection, all_columns, some_items, IsFilter, IsHaving, no_clause, clause_of, source_of, shaping_of, IsQuery, select_query, IsText, bare, with_semicolon, IsReadFrom, ℕ, ◌∙◌, arith}
-use Rattle.query_model.specs.Formulas.{argument_form, call, call_form, column, cond_form, number, operand_form, plain, sides_in, sides_of, text}
+use Rattle.sql_text.proofs.Imports.{◌≡◌, List, [], ◌∷◌, map, flat_map, Option, None, Some, option_map, is_some, All, All-nil, All-cons, All-head, All-tail, All-append, All-weaker, operands_of, item_calls, calls_of, IsNoCall, HasItsArgument, IsAnalysable, AggCall, ColumnRef, CondOf, ExprOf, Operand, Item, Items, Query, CallTree, QueryOperand, Condition, ItemTree, ItemWhat, Selection, QueryTree, item_tree, Tokens, IsAgg, IsOperand, IsGroupOperand as IsGroupSide, IsCond, one_conj, disjunction, IsConj, one_neg, conjunction, IsNeg, negation, enclosed_cond, comparison, is_null, is_not_null, AreListed, last_one, one_more, IsSelectItem, IsSelection, all_columns, some_items, IsFilter, IsHaving, no_clause, clause_of, source_of, shaping_of, IsQuery, select_query, IsText, bare, with_semicolon, IsReadFrom, ℕ, ◌∙◌, arith}
+use Rattle.query_model.specs.Formulas.{argument_form, call, call_form, column, cond_form, null, number, operand_form, plain, sides_in, sides_of, text}
 use Rattle.query_model.specs.Formulas.{arith as calculated}
 use Rattle.query_model.specs.Names.{cond_operands, listed, takes_argument, MayBeGroupOperand}
 use Rattle.query_model.specs.Trees.{call_item, items_in, plain_item, selection}
@@ -20,6 +20,7 @@ abbrev IsRowForm : QueryOperand → Type 0
 IsRowForm (plain e) = ⊤
 IsRowForm (text t) = ⊤
 IsRowForm (call c) = ⊥
+IsRowForm null = ⊤
 
 abbrev IsGroupForm : QueryOperand → Type 0
 IsGroupForm (plain (column c)) = ⊤
@@ -27,6 +28,7 @@ IsGroupForm (plain (number n)) = ⊤
 IsGroupForm (plain (calculated op a b)) = ⊥
 IsGroupForm (text t) = ⊤
 IsGroupForm (call c) = HasArgument c
+IsGroupForm null = ⊤
 
 abbrev IsItemForm : ItemWhat → Type 0
 IsItemForm (plain_item e) = ⊤
@@ -62,6 +64,8 @@ module _ (Op : QueryOperand → Tokens → Tokens → Type 0) (P : QueryOperand 
     neg_sides (enclosed_cond a) = cond_sides a
     neg_sides (comparison {a = a} {b = b} l o r) =
         All-cons P a (b ∷ []) (each _ _ _ l) (All-cons P b [] (each _ _ _ r) (All-nil P))
+    neg_sides (is_null l) = All-cons P _ [] (each _ _ _ l) (All-nil P)
+    neg_sides (is_not_null l) = All-cons P _ [] (each _ _ _ l) (All-nil P)
 
 item_argument : {i : ItemTree} {ts rest : Tokens} → IsSelectItem i ts rest → IsItemTree i
 item_argument a = grind (arith, agg_argument)

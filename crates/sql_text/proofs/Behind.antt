@@ -1,5 +1,5 @@
 -- A spelling takes at least one token of what it begins with.
-use Rattle.sql_text.proofs.Imports.{◌<◌, List, ◌∷◌, length, arith, ColumnRef, Join, NamePair, OrderKey, TableRef, Expression, CallTree, QueryOperand, CondForm, ItemWhat, ItemTree, Selection, Tokens, IsColumn, IsExpr, one_term, sum, difference, IsTerm, one_factor, product, IsFactor, a_column, a_number, negative, enclosed, IsAgg, call_over, IsOperand, an_expr, IsGroupOperand, a_key, a_call, IsCond, one_conj, disjunction, IsConj, one_neg, conjunction, IsNeg, negation, enclosed_cond, comparison, AreListed, last_one, one_more, IsWhat, an_expression, an_agg, IsSelectItem, IsSelection, IsTableRef, IsPair, equal_columns, IsJoined, table_on, IsOrderKey, Token}
+use Rattle.sql_text.proofs.Imports.{◌<◌, List, ◌∷◌, length, arith, ColumnRef, Join, NamePair, OrderKey, TableRef, Expression, CallTree, QueryOperand, CondForm, ItemWhat, ItemTree, Selection, Tokens, IsColumn, IsExpr, one_term, sum, difference, IsTerm, one_factor, product, IsFactor, a_column, a_number, negative, enclosed, IsAgg, call_over, IsOperand, an_expr, IsGroupOperand, a_key, a_call, IsCond, one_conj, disjunction, IsConj, one_neg, conjunction, IsNeg, negation, enclosed_cond, comparison, is_null, is_not_null, AreListed, last_one, one_more, IsWhat, an_expression, an_agg, IsSelectItem, IsSelection, IsTableRef, IsPair, equal_columns, IsJoined, table_on, IsOrderKey, Token}
 use Rattle.sql_grammar.specs.declared.Token.TheVariants as token
 
 abbrev pub IsShorter : Tokens → Tokens → Type 0
@@ -59,6 +59,8 @@ module _ {S : Type 0} (Op : S → Tokens → Tokens → Type 0)
     neg_shorter (enclosed_cond c) = omega (arith, cond_shorter c)
     neg_shorter (comparison {s = s} {a = a} {b = b} {ts = ts} {mid = mid} {rest = rest} l o r) =
         omega (arith, each a ts (token.Sign s ∷ mid) l, each b mid rest r)
+    neg_shorter (is_null l) = omega (arith, each _ _ _ l)
+    neg_shorter (is_not_null l) = omega (arith, each _ _ _ l)
 
 pub list_shorter : {X : Type 0} (Is : X → Tokens → Tokens → Type 0) (separator : Token)
     → ((x : X) (ts rest : Tokens) → Is x ts rest → IsShorter rest ts)

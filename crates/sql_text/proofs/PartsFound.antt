@@ -1,12 +1,13 @@
 -- What is spelled is read.
-use Rattle.sql_text.proofs.Imports.{◌≡◌, ℕ, suc, ◌≤◌, true, List, ◌∷◌, length, Some, None, option_and_then, refl, ap, ◌∙◌, arith, column, AggOp, ColumnRef, CompareOp, aggregate_of, has_argument, Expression, CallTree, QueryOperand, plain, call, Tokens, IsOperand, IsGroupOperand, IsColumn, unqualified, IsExpr, one_term, sum, difference, IsTerm, one_factor, product, IsFactor, a_column, a_number, negative, enclosed, IsAgg, count_rows, count_star, call_over as over, an_expr, a_key, a_call, IsComparison, IsCond, one_conj, disjunction, IsConj, one_neg, conjunction, IsNeg, negation, enclosed_cond, comparison, Sign, Parsed, side, truth, OperandParser, SideRules, CondForm, row_sides, group_sides, joint_of, if_level, next_joint, dotted, closed_at, call_at, called, negation_at, first_term, part_at}
+use Rattle.sql_text.proofs.Imports.{◌≡◌, ℕ, suc, ◌≤◌, true, List, ◌∷◌, length, Some, None, option_and_then, refl, ap, ◌∙◌, arith, column, AggOp, ColumnRef, CompareOp, aggregate_of, has_argument, Expression, CallTree, QueryOperand, plain, call, Tokens, IsOperand, IsGroupOperand, IsColumn, unqualified, IsExpr, one_term, sum, difference, IsTerm, one_factor, product, IsFactor, a_column, a_number, negative, enclosed, IsAgg, count_rows, count_star, call_over as over, an_expr, a_key, a_call, IsComparison, IsCond, one_conj, disjunction, IsConj, one_neg, conjunction, IsNeg, negation, enclosed_cond, comparison, is_null, is_not_null, Sign, Parsed, side, truth, OperandParser, SideRules, CondForm, row_sides, group_sides, operator_of, if_level, next_operator, dotted, closed_at, call_at, called, negation_at, first_term, part_at}
 use Rattle.query_model.specs.declared.query.ArithOp.TheVariants as op
 use Rattle.sql_grammar.specs.declared.Token.TheVariants as token
 use Rattle.sql_grammar.specs.declared.Sign.TheVariants as sign
 use Rattle.sql_text.specs.declared.term.BinaryOperator.TheVariants as joint
+use Rattle.sql_text.specs.declared.term.Operator.TheVariants as operator
 use Rattle.sql_text.specs.Terms.{call_over}
 use Rattle.sql_text.proofs.Behind.{IsShorter, expr_shorter, term_shorter, factor_shorter, operand_shorter, group_shorter, cond_shorter, conj_shorter, neg_shorter}
-use Rattle.sql_text.proofs.Turns.{ends_name, if_level-none, none_above_products, tighter, Goes, from_first, onward, deeper}
+use Rattle.sql_text.proofs.Turns.{ends_name, if_level-none, none_above_products, tighter, Goes, from_first, onward, turned, deeper}
 
 -- ---- expressions
 
@@ -31,11 +32,10 @@ group_column n (unqualified {name = name} {rest = rest}) h =
     grind (arith, dotted_found, nothing_called)
 group_column n a h = grind (arith, dotted_found, nothing_called)
 
--- What is spelled so is read at each level up to top, where no binary operator of bar or above
--- follows.
+-- What is spelled so is read at each level up to top, where no operator of bar or above follows.
 abbrev pub ReadsAs : {S : Type 0} → SideRules S → ℕ → ℕ → Parsed S → Tokens → Tokens → Type 0
 ReadsAs rules top bar v ts rest = (n least : ℕ) → least ≤ top → ends_name rest ≡ true
-    → next_joint bar rest ≡ None → length ts ≤ suc n → Goes rules n least v ts rest
+    → next_operator bar rest ≡ None → length ts ≤ suc n → Goes rules n least v ts rest
 
 -- what stands in parentheses
 inside_found : {S : Type 0} (rules : SideRules S) (n : ℕ) (v : Parsed S) (ts rest : Tokens)
@@ -128,7 +128,7 @@ group_found s ts rest _ n least k h none l = from_first group_sides refl
 
 -- the binary operator of a comparison, behind which a name may stand
 comparison_joint : {o : CompareOp} {s : Sign} → IsComparison o s
-    → (joint_of (token.Sign s) ≡ Some (joint.Compare o))
+    → (operator_of (token.Sign s) ≡ Some (operator.Binary (joint.Compare o)))
     × ((ts : Tokens) → ends_name (token.Sign s ∷ ts) ≡ true)
 comparison_joint a = grind arith
 
@@ -157,11 +157,17 @@ module _ {S : Type 0} (rules : SideRules S)
         let less = sides.shorter a ts (token.Sign s ∷ mid) left in
         onward rules (joint.Compare o) (sides.found a ts (token.Sign s ∷ mid) left n least
         (omega arith) (joins.1 mid) (ap (if_level 6 mid) joins.0
-        ∙ if_level-none 6 mid (joint.Compare o) (omega arith)) l)
+        ∙ if_level-none 6 mid (operator.Binary (joint.Compare o)) (omega arith)) l)
         joins.0 k less l (sides.shorter b mid rest right)
         (λ m i. sides.found b mid rest right m 5 (omega arith) h
         (tighter 4 6 rest (omega arith) none) i)
         (tighter 4 5 rest (omega arith) none) refl
+    neg_found (is_null left) n least k h none l =
+        turned rules operator.Is (sides.found _ _ _ left n least (omega arith) refl refl l) refl k
+        (omega arith) refl
+    neg_found (is_not_null left) n least k h none l =
+        turned rules operator.Is (sides.found _ _ _ left n least (omega arith) refl refl l) refl k
+        (omega arith) refl
 
     conj_found : {v : CondForm S} {ts rest : Tokens} → IsConj Op v ts rest
         → ReadsAs rules 2 3 (truth v) ts rest

@@ -1,5 +1,5 @@
 -- What is read is spelled so.
-use Rattle.sql_text.proofs.Imports.{◌≡◌, ℕ, zero, suc, ◌≤◌, true, List, ◌∷◌, length, Option, Some, None, option_and_then, option_map, IfSome, refl, sym, subst, arith, AggOp, ArithOp, CompareOp, aggregate_of, has_argument, Expression, QueryOperand, plain, text, compare, both, Tokens, IsColumn, unqualified, qualified, IsExpr, one_term, sum, difference, IsTerm, one_factor, product, IsFactor, a_column, a_number, negative, enclosed, IsAgg, count_rows, count_star, call_over as called_over, an_expr, a_string, IsOperand, IsGroupOperand, a_key, a_call, a_constant, a_negative, a_text, IsComparison, equal, not_equal, less, less_equal, greater, greater_equal, IsCond, one_conj, disjunction, IsConj, one_neg, conjunction, IsNeg, negation, enclosed_cond, comparison, Token, Sign, BinaryOperator, Parsed, side, truth, Parse, OperandParser, PartParser, SideRules, CondForm, call, sign_joint, joint_of, level, if_level, next_joint, if_both, binary_of, side_of, dotted, row_sides, group_sides, row_side_at, closed_at, count_at, call_at, called, call_front, call_or_row, negation_at, first_term, turn_of, joined_at, joined, part_at, plain_side, is_some}
+use Rattle.sql_text.proofs.Imports.{◌≡◌, ℕ, zero, suc, ◌≤◌, true, List, ◌∷◌, length, Option, Some, None, option_and_then, option_map, IfSome, refl, sym, subst, arith, AggOp, ArithOp, CompareOp, aggregate_of, has_argument, Expression, QueryOperand, plain, text, null, compare, both, Tokens, IsColumn, unqualified, qualified, IsExpr, one_term, sum, difference, IsTerm, one_factor, product, IsFactor, a_column, a_number, negative, enclosed, IsAgg, count_rows, count_star, call_over as called_over, an_expr, a_string, IsOperand, IsGroupOperand, a_key, a_call, a_constant, a_negative, a_text, a_null, a_null_constant, IsComparison, equal, not_equal, less, less_equal, greater, greater_equal, IsCond, one_conj, disjunction, IsConj, one_neg, conjunction, IsNeg, negation, enclosed_cond, comparison, is_null, is_not_null, Token, Sign, BinaryOperator, Operator, Parsed, side, truth, Parse, OperandParser, PartParser, SideRules, CondForm, call, sign_joint, operator_of, level, operator_level, if_level, next_operator, if_both, binary_of, side_of, dotted, row_sides, group_sides, row_side_at, closed_at, count_at, call_at, called, call_front, call_or_row, negation_at, null_test_of, first_term, turn_of, joined_at, joined, part_at, plain_side, is_some}
 use Rattle.query_model.specs.Formulas.{arith as arithmetic}
 use Rattle.query_model.specs.declared.query.AggOp.TheVariants as agg
 use Rattle.query_model.specs.declared.query.ArithOp.TheVariants as op
@@ -7,6 +7,7 @@ use Rattle.sql_grammar.specs.declared.Token.TheVariants as token
 use Rattle.sql_grammar.specs.declared.Keyword.TheVariants as keyword
 use Rattle.sql_grammar.specs.declared.Sign.TheVariants as sign
 use Rattle.sql_text.specs.declared.term.BinaryOperator.TheVariants as joint
+use Rattle.sql_text.specs.declared.term.Operator.TheVariants as operator
 use Rattle.sql_text.specs.Terms.{call_over}
 use Rattle.sql_text.proofs.Turns.{level_below, none_above_products, tighter}
 
@@ -18,7 +19,7 @@ pub map_some : {A B : Type 0} (P : A → Type 0) (Q : B → Type 0) (f : A → B
     → IfSome o P → ((x : A) → P x → Q (f x)) → IfSome (option_map f o) Q
 map_some P Q f o h k = grind arith
 
--- ---- the binary operator at the front
+-- ---- the operator at the front
 
 -- the token of a binary operator
 abbrev pub IsJoint : BinaryOperator → Token → Type 0
@@ -32,29 +33,35 @@ IsJoint joint.Or t = t ≡ token.Keyword keyword.Or
 sign_is : (s : Sign) → IfSome (sign_joint s) (λ j. IsJoint j (token.Sign s))
 sign_is s = grind (arith, equal, not_equal, less, less_equal, greater, greater_equal)
 
-token_is : (t : Token) → IfSome (joint_of t) (λ j. IsJoint j t)
-token_is t = grind (arith, sign_is)
+abbrev IsOperator : Operator → Token → Type 0
+IsOperator (operator.Binary j) t = IsJoint j t
+IsOperator operator.Is t = t ≡ token.Keyword keyword.Is
 
--- the binary operator at the front, where none binds more tightly than bound
-record Joins (least bound : ℕ) (ts mid : Tokens) (j : BinaryOperator) : Type 0 where
+token_is : (t : Token) → IfSome (operator_of t) (λ o. IsOperator o t)
+token_is (token.Sign s) =
+    map_some _ _ (λ j. operator.Binary j) (sign_joint s) (sign_is s) (λ j is. is)
+token_is t = grind arith
+
+-- the operator at the front, where none binds more tightly than bound
+record Joins (least bound : ℕ) (ts mid : Tokens) (o : Operator) : Type 0 where
   token : Token
   front : ts ≡ token ∷ mid
-  is : IsJoint j token
-  low : least ≤ level j
-  high : level j ≤ bound
+  is : IsOperator o token
+  low : least ≤ operator_level o
+  high : operator_level o ≤ bound
 
-high_level : (bound : ℕ) (ts : Tokens) (j : BinaryOperator)
-    → if_level (suc bound) ts (Some j) ≡ None → level j ≤ bound
-high_level bound ts j none = grind arith
+high_level : (bound : ℕ) (ts : Tokens) (o : Operator)
+    → if_level (suc bound) ts (Some o) ≡ None → operator_level o ≤ bound
+high_level bound ts o none = grind arith
 
-if_level-joins : (least bound : ℕ) (t : Token) (ts : Tokens) (o : Option BinaryOperator)
-    → IfSome o (λ j. IsJoint j t) → if_level (suc bound) ts o ≡ None
+if_level-joins : (least bound : ℕ) (t : Token) (ts : Tokens) (o : Option Operator)
+    → IfSome o (λ o. IsOperator o t) → if_level (suc bound) ts o ≡ None
     → IfSome (if_level least ts o) (λ n. Joins least bound (t ∷ ts) n.1 n.0)
 if_level-joins least bound t ts o is none = grind (arith, high_level)
 
-next_joins : (least bound : ℕ) (ts : Tokens) → next_joint (suc bound) ts ≡ None
-    → IfSome (next_joint least ts) (λ n. Joins least bound ts n.1 n.0)
-next_joins least bound ts none = grind (arith, if_level-joins, token_is, joint_of)
+next_joins : (least bound : ℕ) (ts : Tokens) → next_operator (suc bound) ts ≡ None
+    → IfSome (next_operator least ts) (λ n. Joins least bound ts n.1 n.0)
+next_joins least bound ts none = grind (arith, if_level-joins, token_is, operator_of)
 
 -- ---- parts by how tightly they hold together
 
@@ -71,15 +78,15 @@ a_neg tight n = record { cond' = one_conj (one_neg n); conj = λ i. one_neg n; n
 -- Op is what spells a side, and IsSide what spells one that holds together so tightly.
 module _ {S : Type 0} (Op : S → Tokens → Tokens → Type 0)
     (IsSide : ℕ → S → Tokens → Tokens → Type 0) where
-  -- a part that may stand beside a binary operator of a lower level
+  -- a part that may stand beside an operator of a lower level
   abbrev pub IsPart : ℕ → Parsed S → Tokens → Tokens → Type 0
   IsPart tight (side s) ts rest = IsSide tight s ts rest
   IsPart tight (truth c) ts rest = AsCond Op tight c ts rest
 
-  -- A part, behind which no binary operator binds so tightly.
+  -- A part, behind which no operator binds so tightly.
   pub record Found (least : ℕ) (v : Parsed S) (ts rest : Tokens) : Type 0 where
     pub is : IsPart least v ts rest
-    pub none : next_joint least rest ≡ None
+    pub none : next_operator least rest ≡ None
 
   abbrev pub AreSpelled : PartParser S → Type 0
   AreSpelled inner = (least : ℕ) (ts : Tokens) → least ≤ 7
@@ -159,31 +166,55 @@ module _ {S : Type 0} (Op : S → Tokens → Tokens → Type 0)
       grind (arith, both, conjunction, one_conj)
   combined_spelled joint.Or bound v w ts mid rest t is h l r = grind (arith, disjunction)
 
-  -- a part with all that binary operators of its level join to it
-  record IsTurned (tight : ℕ) (v : Parsed S) (ts rest : Tokens) : Type 0 where
+  -- A part that holds together at least so tightly, and behind which no operator binds more tightly
+  -- than it does.
+  record IsTurned (low : ℕ) (v : Parsed S) (ts rest : Tokens) : Type 0 where
+    tight : ℕ
+    high : low ≤ tight
     is : Is tight v ts rest
-    none : next_joint (suc tight) rest ≡ None
+    none : next_operator (suc tight) rest ≡ None
+
+  tested : {c : CondForm S} {ts : Tokens} (rest : Tokens) → IsNeg Op c ts rest
+      → IsTurned 4 (truth c) ts rest
+  tested rest n = record {
+    tight = 7;
+    high = omega arith;
+    is = a_neg 7 n;
+    none = tighter 7 8 rest (omega arith) (none_above_products rest);
+  }
+
+  tested_spelled : (s : S) (ts mid : Tokens) → Op s ts (token.Keyword keyword.Is ∷ mid)
+      → IfSome (null_test_of s mid) (λ r. IsTurned 4 r.0 ts r.1)
+  tested_spelled s ts (token.Keyword keyword.Null ∷ rest) is = tested rest (is_null is)
+  tested_spelled s ts (token.Keyword keyword.Not ∷ token.Keyword keyword.Null ∷ rest) is =
+      tested rest (is_not_null is)
+  tested_spelled s ts _ is = tt
 
   -- what the turns keep: the part at the left, behind which none binds more tightly than bound
   abbrev GoOn : (Parsed S → Tokens → Parse (Parsed S)) → ℕ → Type 0
   GoOn more least = (bound : ℕ) (v : Parsed S) (ts mid : Tokens) → least ≤ bound
-      → Is bound v ts mid → next_joint (suc bound) mid ≡ None
+      → Is bound v ts mid → next_operator (suc bound) mid ≡ None
       → IfSome (more v mid) (λ r. Found Op IsSide least r.0 ts r.1)
 
   module _ (right : PartParser S) (h : AreSpelled Op IsSide right) where
-    turn_spelled : (j : BinaryOperator) (bound : ℕ) (v : Parsed S) (ts mid : Tokens) (t : Token)
-        → IsJoint j t → level j ≤ bound → Is bound v ts (t ∷ mid)
-        → IfSome (turn_of rules right j v mid) (λ r. IsTurned (level j) r.0 ts r.1)
-    turn_spelled j bound v ts mid t is high left =
-        bind _ _ _ (right (suc (level j)) mid) (h (suc (level j)) mid (level_below j))
+    turn_spelled : (o : Operator) (bound : ℕ) (v : Parsed S) (ts mid : Tokens) (t : Token)
+        → IsOperator o t → operator_level o ≤ bound → Is bound v ts (t ∷ mid)
+        → IfSome (turn_of rules right o v mid) (λ r. IsTurned (operator_level o) r.0 ts r.1)
+    turn_spelled (operator.Binary j) bound v ts mid t is high left =
+        bind _ _ _ (right (suc (level j)) mid)
+        (h (suc (level j)) mid (level_below (operator.Binary j)))
         (λ r found. map_some _ _ _ (binary_of rules j v r.0)
         (combined_spelled j bound v r.0 ts mid r.1 t is high left found.is)
-        (λ u part. record { is = part; none = found.none }))
+        (λ u part. record { tight = level j; high = omega arith; is = part; none = found.none }))
+    turn_spelled operator.Is bound v ts mid t is high left =
+        bind _ _ _ (side_of v) (as_operand bound v ts (t ∷ mid) left)
+        (λ s spelled. tested_spelled s ts mid
+        (subst (λ (x : Token). Op s ts (x ∷ mid)) is spelled))
 
     joined_at-spelled : (more : Parsed S → Tokens → Parse (Parsed S)) (least : ℕ)
         → GoOn more least → (bound : ℕ) (v : Parsed S) (ts mid : Tokens) → least ≤ bound
         → Is bound v ts mid
-        → (o : Option (BinaryOperator × Tokens)) → next_joint least mid ≡ o
+        → (o : Option (Operator × Tokens)) → next_operator least mid ≡ o
         → IfSome o (λ n. Joins least bound mid n.1 n.0)
         → IfSome (joined_at rules right more v mid o) (λ r. Found Op IsSide least r.0 ts r.1)
     joined_at-spelled more least go bound v ts mid i is None e joins = grind (arith, lower)
@@ -191,14 +222,15 @@ module _ {S : Type 0} (Op : S → Tokens → Tokens → Type 0)
         bind _ _ _ (turn_of rules right n.0 v n.1)
         (turn_spelled n.0 bound v ts n.1 joins.token joins.is joins.high
         (subst (λ (x : Tokens). Is bound v ts x) joins.front is))
-        (λ r turned. go (level n.0) r.0 ts r.1 joins.low turned.is turned.none)
+        (λ r turned. go turned.tight r.0 ts r.1 (omega (arith, joins.low, turned.high)) turned.is
+        turned.none)
 
     joined_spelled : (least turns : ℕ) → GoOn (joined rules right least turns) least
     unfolding joined
     joined_spelled least zero bound v ts mid i is none = tt
     joined_spelled least (suc turns) bound v ts mid i is none =
         joined_at-spelled (joined rules right least turns) least (joined_spelled least turns)
-        bound v ts mid i is (next_joint least mid) refl (next_joins least bound mid none)
+        bound v ts mid i is (next_operator least mid) refl (next_joins least bound mid none)
 
   pub part_spelled : (depth : ℕ) → AreSpelled Op IsSide (part_at rules depth)
   unfolding part_at
@@ -221,6 +253,7 @@ abbrev pub AsRow : ℕ → QueryOperand → Tokens → Tokens → Type 0
 AsRow tight (plain e) ts rest = AsExpr tight e ts rest
 AsRow tight (text t) ts rest = ts ≡ token.Text t ∷ rest
 AsRow tight (call c) ts rest = ⊥
+AsRow tight null ts rest = ts ≡ token.Keyword keyword.Null ∷ rest
 
 abbrev pub AreRows : OperandParser → Type 0
 AreRows inner = AreSpelled IsOperand AsRow inner
@@ -248,7 +281,7 @@ row_enclosed s ts rest h is = grind arith
 row_sides-spelled : AreSidesSpelled IsOperand AsRow row_sides
 row_sides-spelled = record {
   lower = λ p q s ts rest h is. grind arith;
-  operand = λ tight s ts rest is. grind (arith, an_expr, text, a_string);
+  operand = λ tight s ts rest is. grind (arith, an_expr, text, a_string, a_null);
   first = λ depth. row_side_at-spelled;
   enclosed = row_enclosed;
   calculated = λ o a b ts mid rest t is l r.
@@ -295,7 +328,7 @@ AsGroup tight s ts rest = IsGroupOperand s ts rest
 
 group_row : (ts : Tokens) → IfSome (row_side_at ts) (λ r. IsGroupOperand r.0 ts r.1)
 group_row (token.Name w ∷ ts) = a_key (dotted_spelled w ts)
-group_row ts = grind (arith, a_constant, a_negative, a_text)
+group_row ts = grind (arith, a_constant, a_negative, a_text, a_null_constant)
 
 group_side : (n : ℕ) (ts : Tokens)
     → IfSome (group_sides.first n ts) (λ r. IsGroupOperand r.0 ts r.1)

@@ -1,5 +1,5 @@
 -- A query is read exactly where one is spelled.
-use Rattle.sql_text.proofs.Imports.{◌≡◌, ℕ, zero, suc, ◌≤◌, Bool, true, false, cond, List, [], ◌∷◌, length, Option, Some, None, option_and_then, option_map, IfSome, refl, ap, ◌∙◌, arith, codes, bytes_eq, IfSome_then, bytes_eq-Decides, AggOp, ColumnRef, Join, NamePair, OrderKey, Span, TableRef, Expression, CallTree, Condition, ItemWhat, plain_item, ItemTree, Selection, listed, QueryTree, Tokens, IsExpr, IsColumn, unqualified, qualified, one_term, sum, difference, IsTerm, one_factor, product, IsFactor, a_column, a_number, negative, enclosed, IsAgg, IsCond, AreListed, last_one as the_last, one_more as and_more, IsWhat, an_expression, an_agg, IsSelectItem, unnamed, named, IsSelection, all_columns, some_items, IsTableRef, named_table, numbers_table, IsPair, equal_columns, IsJoined, table_on, IsJoin, no_join, join_of as joined_with, inner_join, IsFilter, AreKeys, IsHaving, IsOrderKey, unstated, ascending, descending, IsOrder, IsLimit, source_of, shaping_of, IsQuery, select_query, IsText, bare, with_semicolon, Token, SideRules, QueryOperand, side, plain, row_sides, group_sides, part_at, Parse, next_joint, plain_operand, condition_of, call_at, list_behind, list_at, behind, alias_at, call_front, what_by, what_at, item_of, with_alias, item_at, items_at, selection_at, count_behind, table_named, table_at, from_at, column_ref_at, after_equal, pair_behind, pair_at, on_at, joined_table_at, some_join, join_at, condition_at, clause_at, keys_at, direction_at, order_key_at, order_at, limit_at, is_text_end, QueryTail, ending_at, query_of, query_at, AreBy, IsClause, IsGroupOperand, IsNumber, IsOperand, IsSpan, Separator, by_at, clause_behind, clause_of, filter_at, having_at, listed_by, no_clause, number_parse, number_of, offset_at, reads, span_at, span_of, span_with, text_query}
+use Rattle.sql_text.proofs.Imports.{◌≡◌, ℕ, zero, suc, ◌≤◌, Bool, true, false, cond, List, [], ◌∷◌, length, Option, Some, None, option_and_then, option_map, IfSome, refl, ap, ◌∙◌, arith, codes, bytes_eq, IfSome_then, bytes_eq-Decides, AggOp, ColumnRef, Join, NamePair, OrderKey, Span, TableRef, Expression, CallTree, Condition, ItemWhat, plain_item, ItemTree, Selection, listed, QueryTree, Tokens, IsExpr, IsColumn, unqualified, qualified, one_term, sum, difference, IsTerm, one_factor, product, IsFactor, a_column, a_number, negative, enclosed, IsAgg, IsCond, AreListed, last_one as the_last, one_more as and_more, IsWhat, an_expression, an_agg, IsSelectItem, unnamed, named, IsSelection, all_columns, some_items, IsTableRef, named_table, numbers_table, IsPair, equal_columns, IsJoined, table_on, IsJoin, no_join, join_of as joined_with, inner_join, IsFilter, AreKeys, IsHaving, IsOrderKey, unstated, ascending, descending, IsOrder, IsLimit, source_of, shaping_of, IsQuery, select_query, IsText, bare, with_semicolon, Token, SideRules, QueryOperand, side, plain, row_sides, group_sides, part_at, Parse, next_operator, plain_operand, condition_of, call_at, list_behind, list_at, behind, alias_at, call_front, what_by, what_at, item_of, with_alias, item_at, items_at, selection_at, count_behind, table_named, table_at, from_at, column_ref_at, after_equal, pair_behind, pair_at, on_at, joined_table_at, some_join, join_at, condition_at, clause_at, keys_at, direction_at, order_key_at, order_at, limit_at, is_text_end, QueryTail, ending_at, query_of, query_at, AreBy, IsClause, IsGroupOperand, IsNumber, IsOperand, IsSpan, Separator, by_at, clause_behind, clause_of, filter_at, having_at, listed_by, no_clause, number_parse, number_of, offset_at, reads, span_at, span_of, span_with, text_query}
 use Rattle.query_model.specs.declared.query.TableRef.TheVariants as table
 use Rattle.sql_grammar.specs.declared.Token.TheVariants as token
 use Rattle.sql_grammar.specs.declared.Keyword.TheVariants as keyword
@@ -54,7 +54,7 @@ module _ {X : Type 0} (Is : X → Tokens → Tokens → Type 0) (s : Separator)
 -- ---- items
 
 plain_found : (n : ℕ) {e : Expression} {ts rest : Tokens} → IsExpr e ts rest → length ts ≤ n
-    → ends_name rest ≡ true → next_joint 5 rest ≡ None
+    → ends_name rest ≡ true → next_operator 5 rest ≡ None
     → part_at row_sides n 5 ts ≡ Some (side (plain e), rest)
 plain_found n {e = e} {ts = ts} {rest = rest} is l ends none =
     deeper row_sides n l (expr_shorter is)
@@ -88,7 +88,7 @@ mutual
   factor_begins (enclosed e) = (refl, λ h. refl)
 
 what_found : {w : ItemWhat} {ts rest : Tokens} → IsWhat w ts rest → (n : ℕ) → length ts ≤ n
-    → ends_name rest ≡ true → next_joint 5 rest ≡ None → what_at n ts ≡ Some (w, rest)
+    → ends_name rest ≡ true → next_operator 5 rest ≡ None → what_at n ts ≡ Some (w, rest)
 what_found (an_expression {e = e} {ts = ts} {rest = rest} is) n l ends none =
     ap (what_by n ts) ((expr_begins is).1 ends)
     ∙ ap (option_and_then (λ p. option_map (λ e. (plain_item e, p.1)) (plain_operand p.0)))
@@ -99,7 +99,7 @@ what_found (an_agg {c = c} {ts = ts} {rest = rest} is) n l ends none =
 -- what ends an item
 record EndsItem (rest : Tokens) : Type 0 where
   name : ends_name rest ≡ true
-  joint : next_joint 5 rest ≡ None
+  operator : next_operator 5 rest ≡ None
   alias : alias_at rest ≡ Some (None, rest)
 
 item_from : (n : ℕ) (w : ItemWhat) (alias : Option (List ℕ)) (ts mid rest : Tokens) → what_at n ts ≡
@@ -109,7 +109,7 @@ item_from n w alias ts mid rest read more = grind arith
 item_found : (n : ℕ) {i : ItemTree} {ts rest : Tokens} → IsSelectItem i ts rest → length ts ≤ n
     → EndsItem rest → item_at n ts ≡ Some (i, rest)
 item_found n (unnamed {w = w} {ts = ts} {rest = rest} is) l ends =
-    item_from n w None ts rest rest (what_found is n l ends.name ends.joint) ends.alias
+    item_from n w None ts rest rest (what_found is n l ends.name ends.operator) ends.alias
 item_found n (named {w = w} {name = name} {ts = ts} {rest = rest} is) l ends =
     item_from n w (Some name) ts _ rest (what_found is n l refl refl) refl
 
@@ -133,7 +133,7 @@ selection_found (some_items {ts = ts} {rest = rest} items) n l ends none =
     listed_at ts (no_star items)
     ∙ ap (option_map (λ is. (listed is.0, is.1))) (list_found IsSelectItem between.Comma (item_at n)
     (λ x ts rest i. item_shorter i) n EndsItem
-    (λ ts. record { name = refl; joint = refl; alias = refl })
+    (λ ts. record { name = refl; operator = refl; alias = refl })
     (λ x ts rest is l ends. item_found n is l ends) items (length ts) l (omega arith) ends none)
   where
     listed_at : (ts : Tokens) → is_star ts ≡ false
@@ -197,13 +197,13 @@ record Ends (rest : Tokens) : Type 0 where
   name : ends_name rest ≡ true
   no_and : behind between.And rest ≡ None
   no_comma : behind between.Comma rest ≡ None
-  joint : next_joint 1 rest ≡ None
+  operator : next_operator 1 rest ≡ None
   no_direction : direction_at rest ≡ (false, rest)
 
 simple : {rest : Tokens} → ends_name rest ≡ true → behind between.And rest ≡ None
-    → behind between.Comma rest ≡ None → next_joint 1 rest ≡ None
+    → behind between.Comma rest ≡ None → next_operator 1 rest ≡ None
     → direction_at rest ≡ (false, rest) → Ends rest
-simple a b c d e = record { name = a; no_and = b; no_comma = c; joint = d; no_direction = e }
+simple a b c d e = record { name = a; no_and = b; no_comma = c; operator = d; no_direction = e }
 
 ends : (rest : Tokens) → rank rest ≤ 6 → Ends rest
 ends rest h = grind (arith, simple)
@@ -289,7 +289,7 @@ module _ (rules : SideRules QueryOperand) (Op : QueryOperand → Tokens → Toke
       ap (option_and_then (λ p. option_map (λ c. (c, p.1)) (condition_of p.0)))
       (deeper rules n l (cond_shorter Op sides.shorter is)
       (λ m i. cond_found rules Op sides is m 1 (omega arith)
-      ends.name (tighter 1 2 rest (omega arith) ends.joint) i) ends.joint)
+      ends.name (tighter 1 2 rest (omega arith) ends.operator) i) ends.operator)
 
 having_found : {c : Option Condition} {ts rest : Tokens} → IsHaving c ts rest → (n : ℕ)
     → length ts ≤ n → rank rest ≤ 2 → IsFound (having_at n ts) c ts rest 3
@@ -357,7 +357,7 @@ query_found (select_query items (source_of is join filter) (shaping_of keys havi
     let js = join_found join fs.1 in
     let e = ends _ js.1 in
     let s =
-    selection_found items n (omega arith) (record { name = refl; joint = refl; alias = refl })
+    selection_found items n (omega arith) (record { name = refl; operator = refl; alias = refl })
     refl in
     rw (s, table_found is e.name, js.0, fs.0, ks.0, hs.0, os.0, ls.0) refl
 

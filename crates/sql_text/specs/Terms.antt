@@ -1,5 +1,5 @@
 -- How parts of expressions and conditions are read, from the left. What reads AND, OR, NOT,
--- comparisons and parentheses is over any sides of comparisons, and what is told of them.
+-- comparisons, IS and parentheses is over any sides of them, and what is told of these.
 use Rattle.std.specs.Prelude.{ℕ, zero, suc, Bool, true, false, nat_le, is_some, if◌then◌else◌, List, [], ◌∷◌, length, Option, Some, None, option_map, option_and_then}
 use Rattle.query_model.specs.Formulas.{CondForm, column, number, arith, call_form, cond_form, formula}
 use Rattle.query_model.specs.declared.query.ArithOp.{ArithOp}
@@ -8,7 +8,7 @@ use Rattle.query_model.specs.declared.query.ColumnRef.{ColumnRef}
 use Rattle.query_model.specs.declared.query.ArithOp.TheVariants as op
 use Rattle.query_model.specs.declared.query.AggOp.TheVariants as agg
 use Rattle.query_model.specs.declared.query.CompareOp.TheVariants as order
-use Rattle.sql_grammar.specs.Names.{aggregate_of, Expression, CallTree, QueryOperand, plain, text, call, compare, both, either, negated}
+use Rattle.sql_grammar.specs.Names.{aggregate_of, Expression, CallTree, QueryOperand, plain, text, call, null, compare, both, either, negated, null_test}
 use Rattle.sql_grammar.specs.declared.Token.{Token}
 use Rattle.sql_grammar.specs.declared.Keyword.{Keyword}
 use Rattle.sql_grammar.specs.declared.Sign.{Sign}
@@ -17,6 +17,8 @@ use Rattle.sql_grammar.specs.declared.Keyword.TheVariants as keyword
 use Rattle.sql_grammar.specs.declared.Sign.TheVariants as sign
 use Rattle.sql_text.specs.declared.term.BinaryOperator.{BinaryOperator}
 use Rattle.sql_text.specs.declared.term.BinaryOperator.TheVariants as joint
+use Rattle.sql_text.specs.declared.term.Operator.{Operator}
+use Rattle.sql_text.specs.declared.term.Operator.TheVariants as operator
 use Rattle.sql_text.specs.declared.term.RowSide.{RowSide}
 use Rattle.sql_text.specs.declared.term.RowSide.TheVariants as row
 use Rattle.sql_text.specs.declared.term.GroupSide.{GroupSide}
@@ -24,7 +26,7 @@ use Rattle.sql_text.specs.declared.term.GroupSide.TheVariants as group
 use Rattle.sql_text.specs.declared.term.Term.{Term}
 use Rattle.sql_text.specs.declared.term.Term.TheVariants as part'
 
--- a part: a side of a comparison, or a condition
+-- a part: a side of a comparison or of IS, or a condition
 pub data Parsed (S : Type 0) : Type 0 where
   side : S → Parsed S
   truth : CondForm S → Parsed S
@@ -33,7 +35,7 @@ pub data Parsed (S : Type 0) : Type 0 where
 abbrev pub Parse : Type 0 → Type 0
 Parse A = Option (A × List Token)
 
--- ---- what joins two parts
+-- ---- what stands behind a part
 
 abbrev pub sign_joint : Sign → Option BinaryOperator
 sign_joint sign.Plus = Some (joint.Arith op.Add)
@@ -47,18 +49,19 @@ sign_joint sign.Greater = Some (joint.Compare order.Gt)
 sign_joint sign.GreaterEqual = Some (joint.Compare order.Ge)
 sign_joint _ = None
 
-abbrev pub keyword_joint : Keyword → Option BinaryOperator
-keyword_joint keyword.And = Some joint.And
-keyword_joint keyword.Or = Some joint.Or
-keyword_joint _ = None
+abbrev pub keyword_operator : Keyword → Option Operator
+keyword_operator keyword.And = Some (operator.Binary joint.And)
+keyword_operator keyword.Or = Some (operator.Binary joint.Or)
+keyword_operator keyword.Is = Some operator.Is
+keyword_operator _ = None
 
-abbrev pub joint_of : Token → Option BinaryOperator
-joint_of (token.Keyword k) = keyword_joint k
-joint_of (token.Sign s) = sign_joint s
-joint_of _ = None
+abbrev pub operator_of : Token → Option Operator
+operator_of (token.Keyword k) = keyword_operator k
+operator_of (token.Sign s) = option_map (λ j. operator.Binary j) (sign_joint s)
+operator_of _ = None
 
--- How tightly a binary operator binds: those of a condition from 1 on, those of a negation from 4
--- on, since NOT stands at 3, and those of an expression from 5 on.
+-- How tightly an operator binds: those of a condition from 1 on, those of a negation from 4 on,
+-- since NOT stands at 3, and those of an expression from 5 on.
 abbrev pub level : BinaryOperator → ℕ
 level joint.Or = 1
 level joint.And = 2
@@ -67,14 +70,18 @@ level (joint.Arith op.Add) = 5
 level (joint.Arith op.Sub) = 5
 level (joint.Arith op.Mul) = 6
 
-abbrev pub if_level : ℕ → List Token → Option BinaryOperator → Option (BinaryOperator × List Token)
-if_level least ts None = None
-if_level least ts (Some j) = if nat_le least (level j) then Some (j, ts) else None
+abbrev pub operator_level : Operator → ℕ
+operator_level (operator.Binary j) = level j
+operator_level operator.Is = 4
 
--- the binary operator at the front, where it binds at least so tightly
-abbrev pub next_joint : ℕ → List Token → Option (BinaryOperator × List Token)
-next_joint least [] = None
-next_joint least (t ∷ ts) = if_level least ts (joint_of t)
+abbrev pub if_level : ℕ → List Token → Option Operator → Option (Operator × List Token)
+if_level least ts None = None
+if_level least ts (Some o) = if nat_le least (operator_level o) then Some (o, ts) else None
+
+-- the operator at the front, where it binds at least so tightly
+abbrev pub next_operator : ℕ → List Token → Option (Operator × List Token)
+next_operator least [] = None
+next_operator least (t ∷ ts) = if_level least ts (operator_of t)
 
 abbrev pub side_of : {S : Type 0} → Parsed S → Option S
 side_of (side s) = Some s
@@ -96,7 +103,17 @@ abbrev pub negation_at : {S : Type 0} → Parsed S → List Token → Parse (Par
 negation_at (side s) ts = None
 negation_at (truth c) ts = Some (truth (negated c), ts)
 
--- what reads a part whose binary operators bind at least so tightly
+-- the operand in front of IS, tested by what stands behind that
+abbrev pub null_test_of : {S : Type 0} → S → List Token → Parse (Parsed S)
+null_test_of s (token.Keyword keyword.Null ∷ ts) = Some (truth (null_test s), ts)
+null_test_of s (token.Keyword keyword.Not ∷ token.Keyword keyword.Null ∷ ts) =
+    Some (truth (negated (null_test s)), ts)
+null_test_of s _ = None
+
+abbrev pub null_test_at : {S : Type 0} → Parsed S → List Token → Parse (Parsed S)
+null_test_at part ts = option_and_then (λ s. null_test_of s ts) (side_of part)
+
+-- what reads a part whose operators bind at least so tightly
 abbrev pub PartParser : Type 0 → Type 0
 PartParser S = ℕ → List Token → Parse (Parsed S)
 
@@ -121,7 +138,7 @@ module _ {S : Type 0} (rules : SideRules S) where
       then option_map (λ rest. (side s, rest)) (behind_bracket ts) else None
   closed_at (truth c) ts = option_map (λ rest. (truth c, rest)) (behind_bracket ts)
 
-  -- a part without binary operators: a side, what stands in parentheses, or a negation
+  -- a part without operators behind it: a side, what stands in parentheses, or a negation
   abbrev pub first_term : ℕ → PartParser S → List Token → Parse (Parsed S)
   first_term depth inner (token.Keyword keyword.Not ∷ ts) =
       option_and_then (λ p. negation_at p.0 p.1) (inner 4 ts)
@@ -129,26 +146,28 @@ module _ {S : Type 0} (rules : SideRules S) where
       option_and_then (λ p. closed_at p.0 p.1) (inner 1 ts)
   first_term depth inner ts = option_map (λ s. (side s.0, s.1)) (rules.first depth ts)
 
-  -- the part at the left with what the binary operator joins to it
-  abbrev pub turn_of : PartParser S → BinaryOperator → Parsed S → List Token → Parse (Parsed S)
-  turn_of inner j left ts = option_and_then (λ r. option_map (λ p. (p, r.1)) (binary_of j left r.0))
+  -- what the operator makes of the part at the left
+  abbrev pub turn_of : PartParser S → Operator → Parsed S → List Token → Parse (Parsed S)
+  turn_of inner (operator.Binary j) left ts =
+      option_and_then (λ r. option_map (λ p. (p, r.1)) (binary_of j left r.0))
       (inner (suc (level j)) ts)
+  turn_of inner operator.Is left ts = null_test_at left ts
 
   abbrev pub joined_at : PartParser S → (Parsed S → List Token → Parse (Parsed S)) → Parsed S
-      → List Token → Option (BinaryOperator × List Token) → Parse (Parsed S)
+      → List Token → Option (Operator × List Token) → Parse (Parsed S)
   joined_at inner more left ts None = Some (left, ts)
-  joined_at inner more left ts (Some j) =
-      option_and_then (λ p. more p.0 p.1) (turn_of inner j.0 left j.1)
+  joined_at inner more left ts (Some o) =
+      option_and_then (λ p. more p.0 p.1) (turn_of inner o.0 left o.1)
 
-  -- The part at the left, and what binary operators as tight as least join to it from the left on.
-  -- The last number bounds the turns.
+  -- What operators as tight as least make of the part at the left, from the left on. The last
+  -- number bounds the turns.
   unfoldable pub joined : PartParser S → ℕ → ℕ → Parsed S → List Token → Parse (Parsed S)
   joined inner least zero left ts = None
   joined inner least (suc turns) left ts =
-      joined_at inner (joined inner least turns) left ts (next_joint least ts)
+      joined_at inner (joined inner least turns) left ts (next_operator least ts)
 
-  -- A part whose binary operators bind at least so tightly. The first number bounds how deep parts
-  -- stand in parts; the count of the tokens is always enough.
+  -- A part whose operators bind at least so tightly. The first number bounds how deep parts stand
+  -- in parts; the count of the tokens is always enough.
   unfoldable pub part_at : ℕ → PartParser S
   part_at zero least ts = None
   part_at (suc depth) least ts =
@@ -168,11 +187,13 @@ OperandParser = PartParser QueryOperand
 abbrev pub row_form : RowSide → QueryOperand
 row_form (row.Plain e) = plain (formula e.value)
 row_form (row.Text t) = text t
+row_form row.Null = null
 
 abbrev pub plain_side : QueryOperand → Option Expression
 plain_side (plain e) = Some e
 plain_side (text t) = None
 plain_side (call c) = None
+plain_side null = None
 
 abbrev pub plain_operand : Parsed QueryOperand → Option Expression
 plain_operand part = option_and_then plain_side (side_of part)
@@ -185,7 +206,7 @@ dotted name ts = (record { table = None; name = name }, ts)
 abbrev pub column_at : List ℕ → List Token → QueryOperand × List Token
 column_at name ts = (plain (column (dotted name ts).0), (dotted name ts).1)
 
--- a side without binary operators: a column, a number or a string
+-- a side without operators: a column, a number, a string or NULL
 abbrev pub row_side_at : List Token → Parse QueryOperand
 row_side_at (token.Name w ∷ ts) = Some (column_at w ts)
 row_side_at (token.Number n ∷ ts) =
@@ -193,6 +214,7 @@ row_side_at (token.Number n ∷ ts) =
 row_side_at (token.Sign sign.Minus ∷ token.Number n ∷ ts) =
     Some (plain (number (record { negative = true; size = n })), ts)
 row_side_at (token.Text t ∷ ts) = Some (text t, ts)
+row_side_at (token.Keyword keyword.Null ∷ ts) = Some (null, ts)
 row_side_at _ = None
 
 -- arithmetic is of expressions, and an expression stands in parentheses

@@ -4,7 +4,7 @@ ghost use Rattle.query_model.specs.Formulas.{call_form, cond_form, formula, numb
 ghost use Rattle.sql_grammar.specs.declared.Token.{Token};
 ghost use Rattle.sql_grammar.specs.Names.{QueryOperand};
 ghost use Rattle.sql_text.specs.Answers.{ParseGives};
-ghost use Rattle.sql_text.specs.Terms.{side, truth, part_form, row_form, group_form, sign_joint, keyword_joint, joint_of, level, next_joint, SideRules, binary_of, side_of, row_sides, group_sides, plain_side, plain_operand, condition_of, column_at, behind_bracket, closed_at, count_at, call_over, call_front, call_at, negation_at, first_term, turn_of, joined, part_at};
+ghost use Rattle.sql_text.specs.Terms.{side, truth, part_form, row_form, group_form, sign_joint, keyword_operator, operator_of, level, operator_level, next_operator, SideRules, binary_of, side_of, row_sides, group_sides, plain_side, plain_operand, condition_of, column_at, behind_bracket, closed_at, count_at, call_over, call_front, call_at, negation_at, null_test_at, first_term, turn_of, joined, part_at};
 
 use crate::parse_error::{ParseError, next_token};
 use crate::tables::dotted_at;
@@ -15,7 +15,7 @@ use query_model::query::{
 use sql_grammar::{Keyword, Sign, Token, aggregate_of};
 use std::alloc::Global;
 
-/// The least level of the binary operators of a condition, of a comparison, and of an expression.
+/// The least level of the operators of a condition, of a comparison, and of an expression.
 pub const CONDITION: u8 = 1;
 
 pub const COMPARISON: u8 = 4;
@@ -31,7 +31,14 @@ pub enum BinaryOperator {
     Or,
 }
 
-/// What may stand at a side of a comparison in a clause, and how it is read.
+// What stands behind a part: what joins another to it, or IS, behind which NULL or NOT NULL stands.
+#[derive(Clone, Copy)]
+pub enum Operator {
+    Binary(BinaryOperator),
+    Is,
+}
+
+/// What may stand at a side of a comparison or of IS in a clause, and how it is read.
 pub trait ConditionSide: Drop {
     // A side apart from where its boxes lie, and what is told of sides.
     ghost form: { Self → QueryOperand };
@@ -62,9 +69,10 @@ pub trait ConditionSide: Drop {
 pub enum RowSide {
     Plain(Box<ExprOf<ColumnRef>>),
     Text(Bytes),
+    Null,
 }
 
-/// A side in HAVING: a column, a plain number or a string, or a call.
+/// A side in HAVING: a column, a plain number, a string or NULL, or a call.
 #[derive(Drop)]
 pub enum GroupSide {
     Row(RowSide),
@@ -96,22 +104,23 @@ fn sign_joint(sign: Sign) -> Option<BinaryOperator>
     }
 }
 
-fn keyword_joint(keyword: Keyword) -> Option<BinaryOperator>
-    ensures { result ≡ keyword_joint keyword }
+fn keyword_operator(keyword: Keyword) -> Option<Operator>
+    ensures { result ≡ keyword_operator keyword }
 {
     match keyword {
-        Keyword::And => Some(BinaryOperator::And),
-        Keyword::Or => Some(BinaryOperator::Or),
+        Keyword::And => Some(Operator::Binary(BinaryOperator::And)),
+        Keyword::Or => Some(Operator::Binary(BinaryOperator::Or)),
+        Keyword::Is => Some(Operator::Is),
         _ => None,
     }
 }
 
-fn joint_of(token: &Token) -> Option<BinaryOperator>
-    ensures { result ≡ joint_of token.now }
+fn operator_of(token: &Token) -> Option<Operator>
+    ensures { result ≡ operator_of token.now }
 {
     match token {
-        Token::Sign(sign) => sign_joint(*sign),
-        Token::Keyword(keyword) => keyword_joint(*keyword),
+        Token::Sign(sign) => Some(Operator::Binary(sign_joint(*sign)?)),
+        Token::Keyword(keyword) => keyword_operator(*keyword),
         Token::Name(_) | Token::Number(_) | Token::LargeNumber | Token::Text(_) => None,
     }
 }
@@ -137,14 +146,24 @@ fn level_above(joint: BinaryOperator) -> u8
     level(joint) + 1
 }
 
-// The binary operator at the front, where it binds at least so tightly, and the tokens behind it.
-fn next_joint(least: u8, tokens: &[Token]) -> Option<(BinaryOperator, &[Token])>
-    ensures { option_map (λ p. (p.0, p.1.now)) result ≡ next_joint least tokens.now }
+// IS binds as a comparison does.
+fn operator_level(operator: Operator) -> u8
+    ensures { result ≡ operator_level operator }
+{
+    match operator {
+        Operator::Binary(joint) => level(joint),
+        Operator::Is => COMPARISON,
+    }
+}
+
+// The operator at the front, where it binds at least so tightly, and the tokens behind it.
+fn next_operator(least: u8, tokens: &[Token]) -> Option<(Operator, &[Token])>
+    ensures { option_map (λ p. (p.0, p.1.now)) result ≡ next_operator least tokens.now }
 {
     let (token, rest) = tokens.split_first()?;
-    let joint = joint_of(token)?;
-    if least <= level(joint) {
-        Some((joint, rest))
+    let operator = operator_of(token)?;
+    if least <= operator_level(operator) {
+        Some((operator, rest))
     } else {
         None
     }
@@ -173,7 +192,7 @@ fn plain_side(side: RowSide) -> Result<Box<ExprOf<ColumnRef>>, ParseError>
 {
     match side {
         RowSide::Plain(e) => Ok(e),
-        RowSide::Text(_) => Err(ParseError::Syntax),
+        RowSide::Text(_) | RowSide::Null => Err(ParseError::Syntax),
     }
 }
 
@@ -332,8 +351,36 @@ fn negated<S: ConditionSide>(alloc: Global, part: Term<S>) -> Result<Term<S>, Pa
     }
 }
 
-// A part without binary operators: a side, what stands in parentheses, or a negation. What a level
-// of nested parts needs only beside the level below it stands in frames of its own.
+// The operand in front of IS, tested by what stands behind that.
+#[inline(never)]
+fn null_test_at<S: ConditionSide>(
+    alloc: Global,
+    part: Term<S>,
+    tokens: &[Token],
+) -> Result<(Term<S>, &[Token]), ParseError>
+    ensures { ParseGives (λ p. (part_form S.form p.0, p.1.now)) result
+        (null_test_at (part_form S.form part) tokens.now) }
+{
+    let operand = S::operand_of(side_of(part)?);
+    match tokens {
+        [Token::Keyword(Keyword::Null), ..] => {
+            let test = condition_part(alloc, CondOf::IsNull(operand))?;
+            Ok((test, &tokens[1..]))
+        }
+        [
+            Token::Keyword(Keyword::Not),
+            Token::Keyword(Keyword::Null),
+            ..
+        ] => {
+            let test = Box::new(alloc, CondOf::IsNull(operand))?;
+            Ok((condition_part(alloc, CondOf::Not(test))?, &tokens[2..]))
+        }
+        _ => Err(ParseError::Syntax),
+    }
+}
+
+// A part without operators behind it: a side, what stands in parentheses, or a negation. What a
+// level of nested parts needs only beside the level below it stands in frames of its own.
 #[inline(never)]
 #[cycle(part)]
 fn first_term<S: ConditionSide>(
@@ -360,7 +407,7 @@ fn first_term<S: ConditionSide>(
     }
 }
 
-/// The part at the front whose binary operators bind at least so tightly, and the tokens behind it.
+/// The part at the front whose operators bind at least so tightly, and the tokens behind it.
 /// `depth` bounds how deep parts stand in parts; the count of the tokens is always enough.
 #[cycle(part)]
 #[tactic(auto, using(crate::proofs::Turns::no_depth, crate::proofs::Turns::part_goes))]
@@ -380,23 +427,28 @@ pub fn part_at<S: ConditionSide>(
     joined(alloc, least, first, rest, depth - 1)
 }
 
-// The part at the left, and what the binary operator joins to it.
+// What the operator makes of the part at the left.
 #[cycle(part)]
 fn turn_of<S: ConditionSide>(
     alloc: Global,
-    joint: BinaryOperator,
+    operator: Operator,
     left: Term<S>,
     tokens: &[Token],
     depth: usize,
 ) -> Result<(Term<S>, &[Token]), ParseError>
     ensures { ParseGives (λ p. (part_form S.form p.0, p.1.now)) result
-        (turn_of S.rules (part_at S.rules depth) joint (part_form S.form left) tokens.now) }
+        (turn_of S.rules (part_at S.rules depth) operator (part_form S.form left) tokens.now) }
 {
-    let (right, rest) = part_at(alloc, level_above(joint), tokens, depth)?;
-    Ok((combined(alloc, joint, left, right)?, rest))
+    match operator {
+        Operator::Binary(joint) => {
+            let (right, rest) = part_at(alloc, level_above(joint), tokens, depth)?;
+            Ok((combined(alloc, joint, left, right)?, rest))
+        }
+        Operator::Is => null_test_at(alloc, left, tokens),
+    }
 }
 
-// The part at the left, and all that binary operators as tight as `least` join to it.
+// What all operators as tight as `least` make of the part at the left.
 #[inline(never)]
 #[cycle(part)]
 #[tactic(auto, using(crate::proofs::Turns::turn, crate::proofs::Turns::no_turn, crate::proofs::Turns::no_turns, crate::proofs::Turns::end_of_turns, crate::proofs::Turns::fault_goes))]
@@ -415,9 +467,9 @@ fn joined<S: ConditionSide>(
     let mut rest = tokens;
     // Each turn takes a token, so these are enough.
     for _turn in 0..tokens.len() + 1 {
-        match next_joint(least, rest) {
+        match next_operator(least, rest) {
             None => return Ok((part, rest)),
-            Some((joint, behind)) => match turn_of(alloc, joint, part, behind, depth) {
+            Some((operator, behind)) => match turn_of(alloc, operator, part, behind, depth) {
                 Ok((next, after)) => {
                     part = next;
                     rest = after;
@@ -447,6 +499,7 @@ impl ConditionSide for RowSide {
                 Ok((number_side(alloc, true, *size)?, &tokens[2..]))
             }
             [Token::Text(text), ..] => Ok((RowSide::Text(text.copy()?), &tokens[1..])),
+            [Token::Keyword(Keyword::Null), ..] => Ok((RowSide::Null, &tokens[1..])),
             _ => Err(ParseError::Syntax),
         }
     }
@@ -470,6 +523,7 @@ impl ConditionSide for RowSide {
         match side {
             RowSide::Plain(e) => Operand::Plain(Box::into_inner(e)),
             RowSide::Text(t) => Operand::Text(t),
+            RowSide::Null => Operand::Null,
         }
     }
 }
