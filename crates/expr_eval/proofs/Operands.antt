@@ -1,6 +1,6 @@
 -- The operands of typed arithmetic.
-use Rattle.expr_eval.proofs.Imports.{arith, AreAlike, Bool, CanHold, Column, ColumnType, Expr, IsColumnMade, None, Option, Row, Some, Table, if◌then◌else◌, is_text, map, plain_of, plain_value, true, value_of, values, ℤ, ◌≡◌}
-use Rattle.chunk_data.specs.declared.typed_value.ColumnType.TheVariants as column
+use Rattle.expr_eval.proofs.Imports.{arith, AreAlike, Bool, CanHold, Column, ColumnType, Expr, IsColumnMade, None, Option, Row, Some, Table, column_type, if◌then◌else◌, is_text, map, nullable_if, plain_of, plain_value, true, type_of, value_of, values, ℤ, ◌≡◌}
+use Rattle.chunk_data.specs.declared.typed_value.PlainType.TheVariants as plain
 
 pub plain_before : (p q : Option ℤ) (s t : ColumnType) (z : ℤ) → p ≡ Some z → AreAlike p s q t
     → (q ≡ None) × CanHold t z
@@ -19,10 +19,11 @@ pub made_values : (e : Expr) (table : Table) (c : Column) → IsColumnMade e tab
     → values c ≡ map (value_of e) table.rows
 made_values e table c h = grind arith
 
--- arithmetic gives no text
-pub arith_not_text : (b : Bool) → is_text (if b then column.UInt64 else column.Int64) ≡ true → ⊥
-arith_not_text b e = grind arith
+pub made_type : (e : Expr) (table : Table) (c : Column) → IsColumnMade e table (Some c)
+    → column_type c ≡ type_of e table.types
+made_type e table c h = grind arith
 
--- columns of texts are of one type
-pub text_type : (t : ColumnType) → is_text t ≡ true → t ≡ column.Text
-text_type t h = grind arith
+-- arithmetic gives no text
+pub arith_not_text : (n b : Bool)
+    → is_text (nullable_if n (if b then plain.UInt64 else plain.Int64)) ≡ true → ⊥
+arith_not_text n b e = grind arith

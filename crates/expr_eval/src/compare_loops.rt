@@ -4,7 +4,7 @@ ghost use Rattle.std.specs.Prelude.{◌≡◌, pos, length, map, replicate, IfOk
 ghost use Rattle.std.specs.Ordering.{int_cmp};
 ghost use Rattle.chunk_data.specs.Values.{text_cmp};
 ghost use Rattle.query_model.specs.Expressions.{number_of, passes};
-ghost use Rattle.expr_eval.specs.Results.{flipped};
+ghost use Rattle.expr_eval.specs.Results.{both_or_either as truth_of_both, flipped, opposite_unless as opposite_comparison_unless};
 
 use chunk_data::{Memory, Texts};
 use query_model::query::{CompareOp, Number};
@@ -39,6 +39,23 @@ macro_rules! each_beside {
             CompareOp::Ge => Ok(all.map(|x| $test(CompareOp::Ge, *x, $y)).collect($alloc)?),
         }
     }};
+}
+
+/// The comparison, or where it isn't wanted the one that is false where this one is true.
+pub(crate) fn opposite_unless(wanted: bool, op: CompareOp) -> CompareOp
+    ensures { result ≡ opposite_comparison_unless wanted op }
+{
+    if wanted {
+        return op;
+    }
+    match op {
+        CompareOp::Eq => CompareOp::Ne,
+        CompareOp::Ne => CompareOp::Eq,
+        CompareOp::Lt => CompareOp::Ge,
+        CompareOp::Le => CompareOp::Gt,
+        CompareOp::Gt => CompareOp::Le,
+        CompareOp::Ge => CompareOp::Lt,
+    }
 }
 
 /// The comparison of the same two operands written the other way round.
@@ -310,6 +327,19 @@ pub(crate) fn either(mut mask: Vec<bool>, other: &[bool]) -> Vec<bool>
 {
     either_onto(&mut mask, other);
     mask
+}
+
+/// What two masks have in common where `all` says so, else what is in either, in the first one's
+/// memory.
+pub(crate) fn both_or_either(all: bool, mask: Vec<bool>, other: &[bool]) -> Vec<bool>
+    requires { length other.now ≡ length mask.items }
+    ensures { result.items ≡ map (λ p. truth_of_both all p.0 p.1) (zip mask.items other.now) }
+{
+    if all {
+        both(mask, other)
+    } else {
+        either(mask, other)
+    }
 }
 
 /// The negation of a mask, in its memory.

@@ -1,13 +1,16 @@
-ghost use Rattle.std.specs.Prelude.{◌≡◌, pos, length, map, IfOk, None, Some, option_map, zip};
-ghost use Rattle.chunk_data.specs.Columns.{column_type, values};
+ghost use Rattle.std.specs.Prelude.{◌≡◌, pos, length, map, false, true, IfOk, None, Some, option_map, zip};
+ghost use Rattle.chunk_data.specs.Names.{column_type, nullable_if, slice_type, slice_values, values};
+ghost use Rattle.chunk_data.specs.Values.{is_plain_text};
+ghost use Rattle.query_model.specs.Typing.{plain_holds};
 ghost use Rattle.query_model.specs.Names.{value_of, type_of, number_of, plain_value, arith_type, arith_value, result_type, IsItem, IsTyped, plain_of, CanHold, AreNumbersAlike, AreAlike};
-ghost use Rattle.expr_eval.specs.Results.{IsColumnMade, StandsInColumn, swap_if};
+ghost use Rattle.expr_eval.specs.Results.{IsColumnMade, StandsInColumn, result_plain, swap_if};
 
 use crate::arith_loops::{
     int_results, int_results_beside, int_results_onto, uint_differences, uint_differences_beside,
     uint_results, uint_results_beside,
 };
-use chunk_data::{Chunk, Column, ColumnType, Memory, PlainType, Value};
+use crate::validity::null_where;
+use chunk_data::{Chunk, Column, ColumnType, Memory, PlainSlice, Value};
 use query_model::checked::Expr;
 use query_model::query::{ArithOp, ExprOf, Number};
 use std::alloc::Global;
@@ -79,7 +82,30 @@ fn uint_beside(
     }
 }
 
-// The operator at each value and a plain number, which is written in front where `swapped` is true.
+// The operator at each number that a column keeps, and a plain number, which is written in front
+// where `swapped` is true.
+fn numbers_beside(
+    alloc: Global,
+    swapped: bool,
+    op: ArithOp,
+    numbers: PlainSlice<'_>,
+    n: Number,
+) -> Result<Column, Memory>
+    requires { plain_holds (slice_type numbers) (number_of n) ≡ true }
+    ensures kind { IfOk result
+        (λ c. column_type c ≡ nullable_if false (result_plain op (slice_type numbers.entry))) }
+    ensures values { IfOk result (λ c. values c ≡ map
+        (λ v. swap_if swapped (arith_value op) v (plain_value (number_of n)))
+        (slice_values numbers.entry)) }
+{
+    match numbers {
+        PlainSlice::Ints(xs) => int_beside(alloc, swapped, op, xs, number_as_int(n)),
+        PlainSlice::UInts(xs) => uint_beside(alloc, swapped, op, xs, number_as_uint(n)),
+        PlainSlice::Texts(_) => unreachable!(),
+    }
+}
+
+// The same at the values of a column, NULL where its value is.
 fn beside(
     alloc: Global,
     swapped: bool,
@@ -92,11 +118,8 @@ fn beside(
     ensures values { IfOk result (λ c. values c ≡ map
         (λ v. swap_if swapped (arith_value op) v (plain_value (number_of n))) (values column.now)) }
 {
-    match column.kind().plain() {
-        PlainType::Int64 => int_beside(alloc, swapped, op, column.ints(), number_as_int(n)),
-        PlainType::UInt64 => uint_beside(alloc, swapped, op, column.uints(), number_as_uint(n)),
-        PlainType::Text => unreachable!(),
-    }
+    let made = numbers_beside(alloc, swapped, op, column.plain(), n)?;
+    null_where(alloc, made, column)
 }
 
 fn int_pairs(alloc: Global, op: ArithOp, xs: &[i64], ys: &[i64]) -> Result<Column, Memory>
@@ -127,33 +150,55 @@ fn uint_pairs(alloc: Global, op: ArithOp, xs: &[u64], ys: &[u64]) -> Result<Colu
     }
 }
 
-fn pairs(alloc: Global, op: ArithOp, left: &Column, right: &Column) -> Result<Column, Memory>
-    requires { AreNumbersAlike (column_type left.now) (column_type right.now) }
-    ensures kind { IfOk result (λ c. column_type c ≡ result_type op (column_type left.now)) }
-    ensures values { IfOk result (λ c. values c
-        ≡ map (λ p. arith_value op p.0 p.1) (zip (values left.now) (values right.now))) }
+// The operator at each pair of numbers of two columns, NULL apart.
+fn slice_pairs(
+    alloc: Global,
+    op: ArithOp,
+    left: PlainSlice<'_>,
+    right: PlainSlice<'_>,
+) -> Result<Column, Memory>
+    requires same { slice_type left ≡ slice_type right }
+    requires numbers { is_plain_text (slice_type left) ≡ false }
+    ensures kind { IfOk result
+        (λ c. column_type c ≡ nullable_if false (result_plain op (slice_type left.entry))) }
+    ensures values { IfOk result (λ c. values c ≡ map (λ p. arith_value op p.0 p.1)
+        (zip (slice_values left.entry) (slice_values right.entry))) }
 {
-    match left.kind().plain() {
-        PlainType::Int64 => int_pairs(alloc, op, left.ints(), right.ints()),
-        PlainType::UInt64 => uint_pairs(alloc, op, left.uints(), right.uints()),
-        PlainType::Text => unreachable!(),
+    match (left, right) {
+        (PlainSlice::Ints(xs), PlainSlice::Ints(ys)) => int_pairs(alloc, op, xs, ys),
+        (PlainSlice::UInts(xs), PlainSlice::UInts(ys)) => uint_pairs(alloc, op, xs, ys),
+        _ => unreachable!(),
     }
 }
 
-// The same in the left column's memory, where the results are of its type.
+fn pairs(alloc: Global, op: ArithOp, left: &Column, right: &Column) -> Result<Column, Memory>
+    requires alike { AreNumbersAlike (column_type left.now) (column_type right.now) }
+    requires long { length (values right.now) ≡ length (values left.now) }
+    ensures kind { IfOk result
+        (λ c. column_type c ≡ arith_type op (column_type left.now) (column_type right.now)) }
+    ensures values { IfOk result (λ c. values c
+        ≡ map (λ p. arith_value op p.0 p.1) (zip (values left.now) (values right.now))) }
+{
+    let made = slice_pairs(alloc, op, left.plain(), right.plain())?;
+    let left_nulled = null_where(alloc, made, left)?;
+    null_where(alloc, left_nulled, right)
+}
+
+// The same in the left column's memory, where the results are of its type and none is NULL.
 fn pairs_onto(alloc: Global, op: ArithOp, left: Column, right: &Column) -> Result<Column, Memory>
     requires alike { AreNumbersAlike (column_type left) (column_type right.now) }
     requires long { length (values right.now) ≡ length (values left) }
-    ensures kind { IfOk result (λ c. column_type c ≡ result_type op (column_type left)) }
+    ensures kind { IfOk result
+        (λ c. column_type c ≡ arith_type op (column_type left) (column_type right.now)) }
     ensures values { IfOk result
         (λ c. values c ≡ map (λ p. arith_value op p.0 p.1) (zip (values left) (values right.now))) }
 {
-    match left.kind() {
-        ColumnType::Int64 => {
+    match (left.kind(), right.kind()) {
+        (ColumnType::Int64, ColumnType::Int64) => {
             let results = int_results_onto(op, left.into_ints(), right.ints());
             Ok(Column::of_ints(results))
         }
-        ColumnType::UInt64 | ColumnType::Text => pairs(alloc, op, &left, right),
+        _ => pairs(alloc, op, &left, right),
     }
 }
 
@@ -207,8 +252,8 @@ fn expressions(
     requires right { StandsInColumn right.now chunk.now right_made }
     requires alike { AreNumbersAlike (type_of left.now chunk.now.types)
         (type_of right.now chunk.now.types) }
-    ensures kind { IfOk result
-        (λ c. column_type c ≡ result_type op (type_of left.now chunk.now.types)) }
+    ensures kind { IfOk result (λ c. column_type c
+        ≡ arith_type op (type_of left.now chunk.now.types) (type_of right.now chunk.now.types)) }
     ensures values { IfOk result (λ c. values c ≡ map
         (λ row. arith_value op (value_of left.now row) (value_of right.now row)) chunk.now.rows) }
 {

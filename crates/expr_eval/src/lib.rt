@@ -1,5 +1,6 @@
 //! Expressions and conditions over chunks, evaluated column by column: one loop over slices for
-//! each operator.
+//! each operator. Where columns may have NULL, the same loop runs over all that they keep, and then
+//! what came of a NULL is made NULL, or false in a mask.
 #![tactic(auto)]
 
 mod arith_loops;
@@ -8,6 +9,7 @@ mod condition;
 mod expression;
 mod items;
 mod type_test;
+mod validity;
 
 pub use condition::mask;
 pub use expression::eval;

@@ -1,5 +1,5 @@
 ghost use Rattle.std.specs.Prelude.{◌≡◌, ◌↔◌, IsTrue, option_map};
-ghost use Rattle.query_model.specs.Names.{type_of, number_of, IsTyped, IsTypedOperand, IsTypedCond, operand_type, is_text, plain_of, AreAlike, AreNumbersAlike};
+ghost use Rattle.query_model.specs.Names.{type_of, number_of, IsTyped, IsTypedOperand, IsTypedCond, operand_type, is_text, plain_of, AreAlike, AreComparable, AreNumbersAlike, is_null_operand as is_null_side};
 
 use crate::expression::plain_number;
 use chunk_data::ColumnType;
@@ -59,7 +59,7 @@ fn is_typed_operand(operand: &Operand<u32>, types: &[ColumnType]) -> bool
 {
     match operand {
         Operand::Plain(expr) => is_typed(expr, types),
-        Operand::Text(_) => true,
+        Operand::Text(_) | Operand::Null => true,
         Operand::Agg(_) => false,
     }
 }
@@ -69,8 +69,23 @@ fn operand_is_text(operand: &Operand<u32>, types: &[ColumnType]) -> bool
 {
     match operand {
         Operand::Plain(expr) => expr_type(expr, types).is_text(),
-        Operand::Text(_) | Operand::Agg(_) => true,
+        Operand::Text(_) | Operand::Agg(_) | Operand::Null => true,
     }
+}
+
+fn is_null_operand(operand: &Operand<u32>) -> bool
+    ensures { result ≡ is_null_side operand.now }
+{
+    matches!(operand, Operand::Null)
+}
+
+// Whether two numbers are compared, two texts, or NULL and any.
+fn are_comparable(left: &Operand<u32>, right: &Operand<u32>, types: &[ColumnType]) -> bool
+    ensures { IsTrue result ↔ AreComparable types.now left.now right.now }
+{
+    is_null_operand(left)
+        || is_null_operand(right)
+        || operand_is_text(left, types) == operand_is_text(right, types)
 }
 
 /// Whether the condition is typed by the columns' types.
@@ -81,11 +96,12 @@ pub fn is_typed_cond(cond: &Cond, types: &[ColumnType]) -> bool
         CondOf::Compare(_, left, right) => {
             is_typed_operand(left, types)
                 && is_typed_operand(right, types)
-                && operand_is_text(left, types) == operand_is_text(right, types)
+                && are_comparable(left, right, types)
         }
         CondOf::And(left, right) | CondOf::Or(left, right) => {
             is_typed_cond(left, types) && is_typed_cond(right, types)
         }
         CondOf::Not(inner) => is_typed_cond(inner, types),
+        CondOf::IsNull(operand) => is_typed_operand(operand, types),
     }
 }

@@ -10,4 +10,3 @@ pub use Rattle.proc_shell.proofs.Imports.{Begins, Bool, IsPulled, List, Makes, M
 pub use Rattle.proc_shell.proofs.Resizing.{begins-resized, takes-resized}
 pub use Rattle.proc_shell.proofs.Through.{rows-here, takes-each}
 unfoldable pub use Rattle.proc_api.specs.Prelude.{count_up}
-unfoldable pub use Rattle.query_model.specs.Names.{truth_of}

@@ -1,4 +1,4 @@
-use Rattle.expr_eval.proofs.Imports.{arith, to_z-of_z, ◌∙◌, ◌≡◌}
+use Rattle.expr_eval.proofs.Imports.{arith, to_z-of_z, ◌∙◌}
 use Rattle.expr_eval.proofs.Onto.{onto_more, onto_all}
 use Rattle.expr_eval.proofs.arith_loops.each_int_pair_onto.Goals as goal
 

@@ -1,4 +1,4 @@
-use Rattle.expr_eval.proofs.Imports.{arith, ◌||◌, ◌∙◌}
+use Rattle.expr_eval.proofs.Imports.{arith, ◌∙◌}
 use Rattle.expr_eval.proofs.Onto.{onto_more, onto_all}
 use Rattle.expr_eval.proofs.compare_loops.either_onto.Goals as goal
 

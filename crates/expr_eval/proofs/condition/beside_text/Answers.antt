@@ -1,4 +1,4 @@
-use Rattle.expr_eval.proofs.Imports.{arith, operand_value, passes, ◌∙◌, ◌≡◌}
+use Rattle.expr_eval.proofs.Imports.{arith, compares, operand_value}
 use Rattle.expr_eval.proofs.Onto.{same_value}
 use Rattle.expr_eval.proofs.condition.beside_text.Goals as goal
 
@@ -8,4 +8,8 @@ returns-in-Plain c = rw c.in-Plain.is c.text_compared.ensures
 
 pub returns-in-Text : goal.returns-in-Text
 unfolding operand_value
-returns-in-Text c = search (arith, passes, same_value)
+returns-in-Text c = search (arith, compares, same_value)
+
+pub returns-in-Null : goal.returns-in-Null
+unfolding operand_value
+returns-in-Null c = rw c.in-Null.is c.null_compared.ensures

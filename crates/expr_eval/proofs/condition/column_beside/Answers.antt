@@ -1,10 +1,11 @@
-use Rattle.expr_eval.proofs.Imports.{arith, compared, passes}
-use Rattle.expr_eval.proofs.Applied.{masked_one}
-use Rattle.expr_eval.proofs.Comparisons.{int_compared, uint_compared}
+use Rattle.expr_eval.proofs.Imports.{and_valid, ap, column_validity, compared, map, number_of, passes, plain_value, ◌∙◌}
+use Rattle.expr_eval.proofs.Comparisons.{plain_is_valid}
+use Rattle.expr_eval.proofs.NullLaws.{compares-one}
 use Rattle.expr_eval.proofs.condition.column_beside.Goals as goal
 
-pub returns-in-Int64 : goal.returns-in-Int64
-returns-in-Int64 c = search (arith, masked_one, passes, compared, int_compared)
-
-pub returns-in-UInt64 : goal.returns-in-UInt64
-returns-in-UInt64 c = search (arith, masked_one, passes, compared, uint_compared)
+pub returns : goal.returns
+returns c =
+    let k = plain_value (number_of c.args.n) in
+    c.where_valid.ensures.is ∙ ap (and_valid (column_validity c.args.column.now))
+    (c.in_ok-mask.ensures ∙ ap (map (λ v. passes c.args.op (compared v k))) c.plain.ensures.values)
+    ∙ compares-one c.args.op k (plain_is_valid (number_of c.args.n)) c.args.column.now

@@ -1,4 +1,4 @@
-use Rattle.expr_eval.proofs.Imports.{IfOk-weaker, Some, ap, arith_type, arith_value, number_of, plain_of, plain_value, sym, type_before, type_behind, type_of, type_of_number, value_of, ◌∙◌, ◌≡◌, arith}
+use Rattle.expr_eval.proofs.Imports.{IfOk-weaker, None, Some, ap, arith_type, arith_value, number_of, plain_of, plain_value, sym, type_before, type_behind, type_of, type_of_number, value_of, ◌∙◌, ◌≡◌}
 use Rattle.expr_eval.proofs.Onto.{same_maps}
 use Rattle.expr_eval.proofs.Operands.{plain_before, plain_behind, plain_value_of}
 use Rattle.expr_eval.proofs.expression.arith.Goals as goal
@@ -28,7 +28,14 @@ returns-in-Some-clause-values c =
 pub returns-in-Some-plain_number-clause-kind :
     goal.returns-in-Some-plain_number-clause-kind
 returns-in-Some-plain_number-clause-kind c =
-    grind (arith, plain_behind, type_of_number, type_behind)
+    let e : plain_of c.args.right.now ≡ Some (number_of c.in-Some-plain_number.m) =
+    rw c.in-Some-plain_number.is at c.plain_number-in-None.ensures in
+    let none : plain_of c.args.left.now ≡ None = rw c.in-None.is at c.plain_number.ensures in
+    let held = plain_behind _ _ _ _ _ none e c.requires.alike in
+    IfOk-weaker c.number_beside-in-Some-plain_number.result _ _ (λ made k. k
+    ∙ sym (ap (λ t. arith_type c.args.op (type_of c.args.left.now c.args.chunk.now.types) t)
+    (type_of_number c.args.chunk.now.types c.args.right.now _ e) ∙ type_behind c.args.op _ _ held))
+    c.number_beside-in-Some-plain_number.ensures.kind
 
 pub returns-in-Some-plain_number-clause-values :
     goal.returns-in-Some-plain_number-clause-values

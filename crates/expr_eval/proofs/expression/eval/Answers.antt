@@ -1,4 +1,4 @@
-use Rattle.expr_eval.proofs.Imports.{get_or_default, type_of, value_of, ◌<◌, ◌∙◌, arith}
+use Rattle.expr_eval.proofs.Imports.{get_or_default, type_of, value_of, arith}
 use Rattle.expr_eval.proofs.expression.eval.Goals as goal
 
 pub column-requires : goal.column-requires

@@ -1,4 +1,4 @@
-use Rattle.expr_eval.proofs.Imports.{arith, to_z-of_z, ◌∙◌}
+use Rattle.expr_eval.proofs.Imports.{arith, to_z-of_z}
 use Rattle.expr_eval.proofs.Applied.{under_one, int_beside_at}
 use Rattle.expr_eval.proofs.expression.int_beside.Goals as goal
 

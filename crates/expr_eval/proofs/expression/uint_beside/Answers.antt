@@ -1,4 +1,4 @@
-use Rattle.expr_eval.proofs.Imports.{arith, ◌-ℤ◌, ◌∙◌}
+use Rattle.expr_eval.proofs.Imports.{arith}
 use Rattle.expr_eval.proofs.Applied.{under_one, uint_beside_at, uint_difference_beside_at, uint_type}
 use Rattle.expr_eval.proofs.expression.uint_beside.Goals as goal
 
