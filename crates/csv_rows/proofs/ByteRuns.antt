@@ -22,10 +22,7 @@ module _ (p : ℕ → Bool) (d : List ℕ) (i n : ℕ) (room : i + n ≤ length 
       → prefix_len (λ x. not (p x)) (drop i d)
       ≡ cond b (length (chunk i n d) + prefix_len (λ x. not (p x)) (drop (i + n) d))
       (prefix_len (λ x. not (p x)) (chunk i n d))
-  split b e = ap (prefix_len (λ x. not (p x))) (chunk-drop i n d)
-      ∙ prefix_len-append (λ x. not (p x)) (chunk i n d) (drop (i + n) d)
-      ∙ ap (λ b. cond b (length (chunk i n d) + prefix_len (λ x. not (p x)) (drop (i + n) d))
-      (prefix_len (λ x. not (p x)) (chunk i n d))) e
+  split b e = grind (arith, prefix_len-append, chunk-drop i n d)
 
   pub run_through : mask_l (map p (chunk i n d)) ≡ 0 → prefix_len (λ x. not (p x)) (drop i d)
       ≡ n + prefix_len (λ x. not (p x)) (drop (i + n) d)

@@ -1,5 +1,5 @@
 -- Fields by their places.
-use Rattle.csv_rows.proofs.Imports.{◌≡◌, ℕ, ◌+◌, ◌<◌, ◌≤◌, ◌==◌, ◌||◌, Bool, true, false, List, [], ◌∷◌, ◌++◌, length, take, drop, get_or, sym, ap, ◌∙◌, arith, append_assoc, refl, EndsRecord, FieldUpTo, HasMore, SkipsEnds, append-nil, at_mark, dec_lt, default_config, drop-drop, drop_all, drop_more, eqb-true, first_or, is_line_end, next_record, no_mark, no_quote, bytes_between, prefix_len, records_at, starts_with, is_mark}
+use Rattle.csv_rows.proofs.Imports.{◌≡◌, ℕ, ◌+◌, ◌<◌, ◌≤◌, ◌==◌, ◌||◌, Bool, true, false, List, [], ◌∷◌, ◌++◌, length, take, drop, get_or, sym, ap, ◌∙◌, arith, append_assoc, EndsRecord, FieldUpTo, HasMore, SkipsEnds, append-nil, at_mark, dec_lt, default_config, drop-drop, drop_all, drop_more, eqb-true, first_or, is_line_end, next_record, no_mark, no_quote, bytes_between, prefix_len, records_at, starts_with, is_mark}
 use Rattle.std.proofs.Common.{length-append}
 use Rattle.csv.specs.declared.parser.State.TheVariants as st
 use Rattle.csv_rows.proofs.ByteRuns.{run_bound}
@@ -14,10 +14,7 @@ run_part q bytes at end e = grind (arith, drop-drop)
 -- the byte at a place
 pub first_is : (none : Bool) (c : ℕ) (bytes : List ℕ) (at : ℕ) → at < length bytes
     → first_or none (λ x. x == c) (drop at bytes) ≡ true → drop at bytes ≡ c ∷ drop (at + 1) bytes
-first_is none c bytes at lt h =
-    let whole = drop_more bytes at 0 lt in
-    let is = eqb-true (get_or bytes at 0) c (ap (first_or none (λ x. x == c)) (sym whole) ∙ h) in
-    whole ∙ ap (λ x. x ∷ drop (at + 1) bytes) is
+first_is none c bytes at lt h = grind (arith, eqb-true, drop_more bytes at 0 lt)
 
 pub first_within : (c : ℕ) (bytes : List ℕ) (at : ℕ) → starts_with c (drop at bytes) ≡ true
     → at < length bytes
@@ -60,15 +57,13 @@ quoted_starts bytes at field lt q e = grind (arith, first_is)
 quoted_run : {bytes : List ℕ} {at i : ℕ} {field : List ℕ} → (j : ℕ)
     → j ≡ i + prefix_len no_quote (drop i bytes) → QuotedSoFar bytes at field i
     → QuotedSoFar bytes at (field ++ bytes_between bytes i j) j
-quoted_run {bytes = bytes} {i = i} {field = field} j e h =
-    let run = run_part no_quote bytes i j e in
-    record {
-      reads = λ fields. h.reads fields
-          ∙ copies_join_field st.InQuoted no_quote quoted_copies fields field (drop i bytes)
-          ∙ rw (run.0, run.1) refl;
-      low = omega (arith, e, h.low);
-      high = omega (arith, e, run_bound no_quote bytes i h.high);
-    }
+quoted_run {bytes = bytes} {i = i} {field = field} j e h = grind (
+  arith,
+  copies_join_field,
+  quoted_copies,
+  run_part no_quote bytes i j e,
+  run_bound no_quote bytes i h.high,
+)
 
 -- there a quote stands
 quote_stops : (bytes : List ℕ) (i j : ℕ) → j ≡ i + prefix_len no_quote (drop i bytes)
@@ -83,16 +78,13 @@ pub quoted_twice : {bytes : List ℕ} {at i : ℕ} {field : List ℕ} → (j : �
     → starts_with 34 (drop (j + 1) bytes) ≡ true → QuotedSoFar bytes at field i
     → QuotedSoFar bytes at ((field ++ bytes_between bytes i j) ++ 34 ∷ []) (j + 2)
 unfolding next_record
-quoted_twice {bytes = bytes} {i = i} {field = field} j e lt q before =
-    let h = quoted_run j e before in
-    let more = first_within 34 bytes (j + 1) q in
-    let there : j + 1 + 1 ≡ j + 2 = omega arith in
-    record {
-      reads = λ fields. h.reads fields
-          ∙ rw (quote_stops bytes i j e lt, first_is false 34 bytes (j + 1) more q, there) refl;
-      low = omega (arith, h.low);
-      high = omega (arith, more);
-    }
+quoted_twice {bytes = bytes} {i = i} {field = field} j e lt q before = grind (
+  arith,
+  first_is,
+  quoted_run j e before,
+  first_within 34 bytes (j + 1) q,
+  quote_stops bytes i j e lt,
+)
 
 -- a quote that no other follows closes the field, and bytes up to the next mark join it
 pub quoted_closes : {bytes : List ℕ} {at i : ℕ} {field : List ℕ} → (j end : ℕ)
@@ -101,20 +93,16 @@ pub quoted_closes : {bytes : List ℕ} {at i : ℕ} {field : List ℕ} → (j en
     → end ≡ j + 1 + prefix_len no_mark (drop (j + 1) bytes) → QuotedSoFar bytes at field i
     → FieldUpTo bytes at ((field ++ bytes_between bytes i j) ++ bytes_between bytes (j + 1) end) end
 unfolding next_record
-quoted_closes {bytes = bytes} {i = i} {field = field} j end e lt q stop before =
-    let h = quoted_run j e before in
-    let run = run_part no_mark bytes (j + 1) end stop in
-    record {
-      low = omega (arith, h.low, stop);
-      high = omega (arith, stop, run_bound no_mark bytes (j + 1) (omega (arith, lt)));
-      begins = record {
-        reads = λ fields. h.reads fields ∙ rw (quote_stops bytes i j e lt)
-            (closed_plain (field ++ bytes_between bytes i j) fields (drop (j + 1) bytes) q
-            ∙ plain_run fields (field ++ bytes_between bytes i j) (drop (j + 1) bytes)
-            ∙ rw (run.0, run.1) refl);
-        ends = ap at_mark (sym run.1) ∙ prefix_stops is_mark (drop (j + 1) bytes);
-      };
-    }
+quoted_closes {bytes = bytes} {i = i} {field = field} j end e lt q stop before = grind (
+  arith,
+  closed_plain,
+  plain_run,
+  quoted_run j e before,
+  run_part no_mark bytes (j + 1) end stop,
+  run_bound no_mark bytes (j + 1) (omega (arith, lt)),
+  quote_stops bytes i j e lt,
+  prefix_stops is_mark (drop (j + 1) bytes),
+)
 
 -- quotes that aren't closed end with the text
 pub quoted_open : {bytes : List ℕ} {at i : ℕ} {field : List ℕ} → (j : ℕ)
@@ -122,13 +110,7 @@ pub quoted_open : {bytes : List ℕ} {at i : ℕ} {field : List ℕ} → (j : �
     → FieldUpTo bytes at (field ++ bytes_between bytes i j) j
 unfolding next_record
 quoted_open {bytes = bytes} j e all before =
-    let h = quoted_run j e before in
-    let none = drop_all j bytes (omega (arith, all)) in
-    record {
-      low = omega (arith, h.low);
-      high = h.high;
-      begins = record { reads = λ fields. h.reads fields ∙ rw none refl; ends = ap at_mark none };
-    }
+    grind (arith, quoted_run j e before, drop_all j bytes (omega (arith, all)))
 
 -- the end of a line is passed over
 pub skip_more : (bytes : List ℕ) (at i : ℕ) → i < length bytes

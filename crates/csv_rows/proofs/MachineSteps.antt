@@ -1,5 +1,5 @@
 -- The machine of the `csv` crate, by fields and lines.
-use Rattle.csv_rows.proofs.Imports.{◌≡◌, ℕ, suc, ◌+◌, ◌==◌, ◌&&◌, Bool, true, false, cond, not, List, [], ◌∷◌, ◌++◌, take, drop, refl, ap, ◌∙◌, arith, append_assoc, Option, Some, None, State, BeginsField, BeginsFields, FirstRecord, IsSome, Read, and_parts, append-nil, at_end, default_config, ends_at_end, eqb-true, first_or, is_end, is_line_end, next_record, no_mark, no_quote, not-true, or_cases, or_parts, prefix_len, records_from, records_next, starts_line, starts_with, state_code, step, is_mark}
+use Rattle.csv_rows.proofs.Imports.{◌≡◌, ℕ, suc, ◌+◌, ◌==◌, ◌&&◌, Bool, true, false, cond, not, List, [], ◌∷◌, ◌++◌, take, drop, refl, ap, ◌∙◌, arith, append_assoc, Option, Some, State, BeginsField, BeginsFields, FirstRecord, IsSome, Read, and_parts, append-nil, at_end, default_config, ends_at_end, eqb-true, first_or, is_end, is_line_end, next_record, no_mark, no_quote, not-true, or_cases, or_parts, prefix_len, records_from, starts_line, starts_with, state_code, step, is_mark}
 use Rattle.csv.specs.declared.parser.State.TheVariants as st
 use Rattle.csv.specs.declared.parser.Action.TheVariants as act
 
@@ -67,10 +67,7 @@ start_plain fields field xs h = grind arith
 -- a field without quotes
 pub plain_field : (xs : List ℕ) → starts_with 34 xs ≡ false
     → BeginsField xs (take (prefix_len no_mark xs) xs) (drop (prefix_len no_mark xs) xs)
-plain_field xs q = record {
-  reads = λ fields. start_plain fields [] xs q ∙ plain_run fields [] xs;
-  ends = prefix_stops is_mark xs;
-}
+plain_field xs q = grind (arith, start_plain, plain_run, prefix_stops is_mark xs)
 
 -- behind CR as behind LF
 after_return : (fields : List (List ℕ)) (field xs : List ℕ)
@@ -164,10 +161,4 @@ there_is s fields field (c ∷ xs) h = some_in (is_end (step default_config s c)
 pub record_left : (n : ℕ) (xs : List ℕ) → starts_line xs ≡ true
     → at_end (records_from default_config (suc n) st.StartRecord xs) ≡ false
 unfolding records_from
-record_left n xs h = ap (λ o. at_end (records_next (records_from default_config n) o))
-    (record_starts xs h).reads ∙ go _ (there_is st.StartField [] [] xs refl)
-  where
-    go : (o : Option Read) → IsSome o
-        → at_end (records_next (records_from default_config n) o) ≡ false
-    go None h = absurd cc
-    go (Some p) h = refl
+record_left n xs h = grind (arith, record_starts xs h, there_is st.StartField [] [] xs refl)

@@ -57,13 +57,8 @@ over_none left bytes at e = rw e refl
 pub over_is : (left : ℕ) (bytes : List ℕ) (at n : ℕ) → left ≢ 0 → StartsLine bytes at
     → n ≡ length bytes → nat_eq at n ≡ at_end (records_at left bytes at)
 over_is zero bytes at n some h size = absurd (some refl)
-over_is (suc left) bytes at n some h size = elim (dec_lt at (length bytes)) [
-  | yes lt ↦ ne_eqb at n (λ e. absurd (omega (arith, lt, size, e)))
-      ∙ sym (record_left left (drop at bytes) (h.line lt))
-  | no over ↦ let high = h.within in
-      eq-eqb at n (omega (arith, over, size, high))
-      ∙ sym (ap at_end (none_left (suc left) bytes at (omega (arith, over))))
-]
+over_is (suc left) bytes at n some h size =
+    grind (arith, dec_lt, ne_eqb, record_left, eq-eqb, none_left)
 
 -- a byte order mark, or none
 pub bom_is : (bytes : List ℕ) (b : Bool) → 3 ≤ length bytes

@@ -1,5 +1,5 @@
 -- records that are added to columns field by field
-use Rattle.csv_rows.proofs.Imports.{Joined-back, Joined-none, RecordRead, Fields as fields_field, Bool, List, None, [], ap, append_assoc, ap₂, arith, drop, false, get_or, length, map, refl, set, subst, suc, take, true, zero, ℕ, ◌++◌, ◌+◌, ◌<◌, ◌∙◌, ◌∷◌, ◌≡◌, ◌≢◌, ◌≤◌, sym, AddsRecord, AddsSpelled, AreLong, AreLong_push, BeginsFields, Column, EndsRecord, FieldUpTo, HasMore, IsBadRecordAt, Judged, PushesField, PushesFirst, ReadsFirst, ReadsFront, RowsLeft, CanTakeBack, TakesRow, at_end, bad_column, bad_field-lengths, bad_place, both_spelled, get_or-map, good_rows, column_type, length-FitsTypes, length-append, length-map, length-rows_of, map-set, rows_of, rows_of_push, set-get_or, spelled_row, spelled_row-lengths, spelled_value, starts_line, starts_with, take_at, values}
+use Rattle.csv_rows.proofs.Imports.{Joined-back, Joined-none, RecordRead, Fields as fields_field, Bool, List, None, [], ap, append_assoc, ap₂, arith, drop, false, get_or, length, map, refl, set, suc, take, true, ℕ, ◌++◌, ◌+◌, ◌<◌, ◌∙◌, ◌∷◌, ◌≡◌, ◌≢◌, ◌≤◌, sym, AddsRecord, AddsSpelled, AreLong, AreLong_push, BeginsFields, Column, EndsRecord, FieldUpTo, HasMore, IsBadRecordAt, PushesField, PushesFirst, ReadsFirst, ReadsFront, RowsLeft, CanTakeBack, TakesRow, at_end, bad_column, bad_field-lengths, bad_place, both_spelled, get_or-map, good_rows, column_type, length-FitsTypes, length-append, length-map, length-rows_of, map-set, rows_of, rows_of_push, set-get_or, spelled_row, spelled_row-lengths, spelled_value, starts_line, starts_with, take_at, values}
 use Rattle.csv_rows.proofs.FieldPlaces.{first_is, first_within}
 use Rattle.csv_rows.proofs.MachineSteps.{one_more, record_starts}
 
@@ -15,21 +15,15 @@ pub front_more : (fields : List (List ℕ)) (f : List ℕ) (old now : List Colum
     (d y : Column) → Front fields old now → length fields ≡ i → i < length now
     → column_type y ≡ column_type (get_or now i d) → AddsSpelled f (get_or now i d) y
     → Front (fields ++ f ∷ []) old (set now i y)
-front_more [] f old [] i d y h e lt k a = absurd (omega (arith, lt))
-front_more [] f old (n ∷ now) zero d y h e lt k a =
-    subst (λ o. Front (f ∷ []) o (y ∷ now)) h (k, a, refl)
-front_more [] f old (n ∷ now) (suc i) d y h e lt k a = absurd (omega (arith, e))
-front_more (g ∷ fields) f (o ∷ old) (n ∷ now) zero d y h e lt k a = absurd (omega (arith, e))
 front_more (g ∷ fields) f (o ∷ old) (n ∷ now) (suc i) d y h e lt k a =
     (h.0, h.1, front_more fields f old now i d y h.2 (omega (arith, e)) (omega (arith, lt)) k a)
-front_more (g ∷ fields) f old now i d y h e lt k a = absurd h
+front_more fields f old now i d y h e lt k a = grind arith
 
 -- a field for each column
 pub front_all : (fields : List (List ℕ)) (old now : List Column) → Front fields old now
     → length fields ≡ length old → AddsRecord fields old now
 unfolding spelled_row
 front_all [] [] now h e = record { row = []; spells = refl; added = ap (map values) h }
-front_all [] (o ∷ old) now h e = absurd (omega (arith, e))
 front_all (f ∷ fields) (o ∷ old) (n ∷ now) h e =
     let rest = front_all fields old now h.2 (omega (arith, e)) in
     record {
@@ -37,13 +31,12 @@ front_all (f ∷ fields) (o ∷ old) (n ∷ now) h e =
       spells = ap₂ both_spelled h.1.spells rest.spells;
       added = ap₂ ◌∷◌ h.1.added rest.added;
     }
-front_all (f ∷ fields) old now h e = absurd h
+front_all fields old now h e = grind arith
 
 pub front_kinds : (fields : List (List ℕ)) (old now : List Column) → Front fields old now
     → map column_type now ≡ map column_type old
-front_kinds [] old now h = ap (map column_type) h
 front_kinds (f ∷ fields) (o ∷ old) (n ∷ now) h = ap₂ ◌∷◌ h.0 (front_kinds fields old now h.2)
-front_kinds (f ∷ fields) old now h = absurd h
+front_kinds fields old now h = grind arith
 
 pub front_long : (fields : List (List ℕ)) (old now : List Column) → Front fields old now
     → length now ≡ length old
@@ -73,11 +66,10 @@ front_stops : (fields : List (List ℕ)) (f : List ℕ) (more : List (List ℕ))
     → (spelled_row (map column_type old) (fields ++ f ∷ more) ≡ None)
     × ((c : ℕ) → bad_column c (map column_type old) (fields ++ f ∷ more) ≡ c + length fields)
 unfolding spelled_row bad_column
-front_stops [] f more old [] d h lt u = absurd (omega (arith, lt))
 front_stops [] f more old (n ∷ now) d h lt u = grind arith
 front_stops (g ∷ fields) f more (o ∷ old) (n ∷ now) d h lt u =
     grind (arith, front_stops fields f more old now d h.2 (omega (arith, lt)) u)
-front_stops (g ∷ fields) f more old now d h lt u = absurd h
+front_stops fields f more old now d h lt u = grind arith
 
 -- the same where column i was then left as it is
 pub back_at : (fields : List (List ℕ)) (old now : List Column) (i : ℕ) (d y : Column)
@@ -111,16 +103,15 @@ pub row_more : {bytes f : List ℕ} {at place end i : ℕ} {old now : List Colum
     → RowSoFar bytes at place old now i → i < length now → column_type y
     ≡ column_type (get_or now i d) → FieldUpTo bytes place f end → AddsSpelled f (get_or now i d) y
     → starts_with 44 (drop end bytes) ≡ true → RowSoFar bytes at (end + 1) old (set now i y) (i + 1)
-row_more {bytes = bytes} {f = f} {end = end} {i = i} {old = old} {now = now} d y h lt k upto p
-    comma =
-    let there = first_within 44 bytes end comma in
-    record {
-      fields = h.fields ++ f ∷ [];
-      count = length-append h.fields (f ∷ []) ∙ ap (λ n. n + 1) h.count;
-      begins = one_more h.begins (rw (first_is false 44 bytes end there comma) at upto.begins);
-      within = omega (arith, there);
-      added = front_more h.fields f old now i d y h.added h.count lt k p;
-    }
+row_more {bytes = bytes} {f = f} {end = end} {i = i} {old = old} {now = now} d y h lt k upto p c =
+    grind (
+      arith,
+      one_more,
+      first_is,
+      first_within 44 bytes end c,
+      length-append h.fields (f ∷ []),
+      front_more h.fields f old now i d y h.added h.count lt k p,
+    )
 
 -- one field more, or one that spells no value, can be taken back
 pub row_back : {bytes f : List ℕ} {at place end i : ℕ} {old now : List Column} → (spelled : Bool)
@@ -149,35 +140,17 @@ pub row_ends : {bytes f : List ℕ} {at place end i : ℕ} {old now : List Colum
     → PushesField f read.whole (get_or now i d) y → EndsRecord bytes end more read.next
     → read.count ≡ i + 1 + length more → read.last ≡ i → (read.whole ≡ true → more ≡ [])
     → PushesFirst bytes at read old (set now i y)
-row_ends {f = f} {i = i} {old = old} {now = now} {read = read} d y more h lt k upto p line count
-    at-i last = record {
-      fields = h.fields ++ f ∷ more;
-      many = omega (arith, length-append h.fields (f ∷ more), h.count, count);
-      reads = row_reads more h upto line;
-      judged = λ same. judged read.whole p last same;
-    }
-  where
-    judged : (s : Bool) → PushesField f s (get_or now i d) y → (s ≡ true → more ≡ [])
-        → read.count ≡ length old
-        → Judged s read.last (h.fields ++ f ∷ more) old (set now i y)
-    judged true p last same = rw (last refl) (front_all (h.fields ++ f ∷ []) old (set now i y)
-        (front_more h.fields f old now i d y h.added h.count lt k p)
-        (omega (
-          arith,
-          length-append h.fields (f ∷ []),
-          h.count,
-          ap length (last refl),
-          same,
-          count,
-        )))
-    judged false p last same =
-        let stop = front_stops h.fields f more old now d h.added (omega (arith, lt, h.count))
-        (ap (λ k. spelled_value (column_type (get_or now k d)) f) h.count ∙ p.0) in
-        record {
-          low = omega (arith, lt, at-i, front_long h.fields old now h.added);
-          unspelled = stop.0;
-          first = omega (arith, stop.1 1, h.count, at-i);
-        }
+row_ends {f = f} {i = i} {old = old} {now = now} d y more h lt k upto p line count at-i last =
+    grind (
+      arith,
+      front_all,
+      front_more,
+      front_stops,
+      length-append h.fields (f ∷ more),
+      row_reads more h upto line,
+      length-append h.fields (f ∷ []),
+      front_long h.fields old now h.added,
+    )
 
 -- more fields than columns
 pub row_beyond : {bytes f : List ℕ} {at place end i more : ℕ} {old now : List Column}

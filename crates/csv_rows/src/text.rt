@@ -5,13 +5,13 @@ ghost use Rattle.csv_rows.specs.Lines.{heading};
 
 use chunk_data::{Bytes, Chunk, Column, List, Memory, PlainSlice, Value};
 use itoa::{Buffer, Integer};
-use query_model::plain::row_text;
+use query_model::plain::{NULL_TEXT, row_text};
 use std::alloc::Global;
 
 /// The text of an answer: a line of names, if any are given, and then a line for each row.
 ///
-/// Strings stand in double quotes with inner quotes doubled, numbers stand bare, commas separate
-/// and LF ends each line, as in RFC 4180 but for the line's end.
+/// Strings stand in double quotes with inner quotes doubled, numbers and NULL stand bare, commas
+/// separate and LF ends each line, as in RFC 4180 but for the line's end.
 pub fn write_rows(
     alloc: Global,
     names: Option<&List<Bytes>>,
@@ -93,6 +93,10 @@ fn append_value(
     ensures { OnOk result (
         out.new.items ≡ out.old.items ++ value_text (value_at (values column.now) i)) }
 {
+    if !column.is_valid(i) {
+        out.extend_from_slice(NULL_TEXT)?;
+        return Ok(());
+    }
     match column.plain() {
         PlainSlice::Ints(numbers) => append_number(out, digits, numbers[i]),
         PlainSlice::UInts(numbers) => append_number(out, digits, numbers[i]),

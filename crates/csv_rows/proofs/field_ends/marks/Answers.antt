@@ -1,4 +1,4 @@
-use Rattle.csv_rows.proofs.Imports.{Bool, List, [], ap, ap₂, arith, bit_or, cond, false, map, refl, true, ℕ, ◌%◌, ◌==◌, ◌^◌, ◌||◌, ◌∙◌, ◌∷◌, ◌≡◌, is_mark, length-map, mask_l, mask_l-mod, top, zip2_of_maps, zip2_splat}
+use Rattle.csv_rows.proofs.Imports.{Bool, List, [], ap, ap₂, arith, bit_or, cond, map, refl, ℕ, ◌%◌, ◌==◌, ◌^◌, ◌||◌, ◌∙◌, ◌∷◌, ◌≡◌, is_mark, length-map, mask_l, mask_l-mod, top, zip2_of_maps, zip2_splat}
 use Rattle.csv_rows.proofs.field_ends.marks.Goals as goal
 
 abbrev hit : ℕ → ℕ → ℕ
@@ -6,14 +6,7 @@ hit a b = cond (a == b) 255 0
 
 top_or : (a b d : Bool)
     → top 7 (bit_or (bit_or (cond a 255 0) (cond b 255 0)) (cond d 255 0)) ≡ (a || (b || d))
-top_or true true true = refl
-top_or true true false = refl
-top_or true false true = refl
-top_or true false false = refl
-top_or false true true = refl
-top_or false true false = refl
-top_or false false true = refl
-top_or false false false = refl
+top_or a b d = grind arith
 
 tops : (v : List ℕ) → map (top 7) (map (λ x. bit_or (bit_or (hit x 44) (hit x 10)) (hit x 13)) v)
     ≡ map is_mark v

@@ -1,4 +1,4 @@
-use Rattle.csv_rows.proofs.Imports.{◌≡◌, ℕ, ◌+◌, ◌-◌, not, List, length, take, drop, refl, ap, sym, arith, false_from_ne_true, no_quote, prefix_len_is, take_all}
+use Rattle.csv_rows.proofs.Imports.{◌≡◌, ℕ, ◌+◌, ◌-◌, not, List, length, take, drop, ap, arith, false_from_ne_true, no_quote, prefix_len_is, take_all}
 use Rattle.std.proofs.Common.{length-drop}
 use Rattle.csv_rows.proofs.field_ends.next_quote.Goals as goal
 
@@ -8,11 +8,7 @@ from_here bytes at =
     take_all (length bytes - at) (drop at bytes) (omega (arith, length-drop at bytes))
 
 pub returns-in-Some-clause-run : goal.returns-in-Some-clause-run
-returns-in-Some-clause-run c =
-    let h = rw (from_here c.args.bytes.now c.args.at) at c.in-Some.ensures in
-    ap (λ n. c.args.at + n) (sym (prefix_len_is no_quote (drop c.args.at c.args.bytes.now)
-    c.in-Some.found 0 (omega (arith, h.0.high))
-    (λ k lt. ap not (false_from_ne_true _ (h.0.before k (omega arith) lt))) (λ _. rw h.1 refl)))
+returns-in-Some-clause-run c = grind (arith, from_here, prefix_len_is, false_from_ne_true)
 
 pub returns-in-None-clause-run : goal.returns-in-None-clause-run
 returns-in-None-clause-run c =
