@@ -1,6 +1,6 @@
 -- What a left chunk still makes, and what is made of it pair by pair.
-use Rattle.join_proc.proofs.Imports.{All, All-append, All-from_recursion, All-set, AllByRecursion, AreKeyValues, AreFit, AreStarts, IsIndexOf, IsStart, JoinIndex, JoinSpec, JoinsRows, JoinsSome, KeyPair, LeftRows, MovesOn, PairsMore, PlacePairs, Row, LeftStart, Table, agree, cases_lt, codes_in, drop-cons, drop-set, drop_all, get_or_default, append_each, joined_rows, key_at, plain_types_at, left_places, length-append, ltb-true, no_start, paired, position_or_len, right_places, row_at, row_code, rows_to_join, same_code, start_rows, starts_at, Bool, List, [], ap, append_assoc, ap₂, arith, cond, drop, false, filter, flat_map, get_or, inl, inr, leb, length, ltb, map, max, refl, subst, suc, sym, true, ℕ, ◌++◌, ◌+◌, ◌<◌, ◌==◌, ◌∙◌, ◌∷◌, ◌≡◌, ◌≤◌, ◌⊎◌, eq-eqb, le-leb, lt-leb, ne_eqb}
-use Rattle.join_proc.proofs.AgreeLaws.{left-code}
+use Rattle.join_proc.proofs.Imports.{All, All-append, All-from_recursion, All-set, AllByRecursion, AreKeyValues, AreFit, AreStarts, IsIndexOf, IsStart, JoinIndex, JoinSpec, JoinsRows, JoinsSome, KeyPair, LeftRows, MovesOn, PairsMore, PlacePairs, Row, LeftStart, Table, agree, cases_lt, codes_in, drop-cons, drop-set, drop_all, get_or_default, append_each, is_full, joined_rows, key_at, plain_types_at, left_places, length-append, ltb-true, no_start, paired, position_or_len, right_places, row_at, row_code, rows_to_join, same_code, start_rows, starts_at, Bool, List, [], ap, append_assoc, ap₂, arith, cond, drop, false, filter, flat_map, get_or, inl, inr, leb, length, ltb, map, max, refl, subst, suc, sym, true, ℕ, ◌&&◌, ◌++◌, ◌+◌, ◌<◌, ◌==◌, ◌∙◌, ◌∷◌, ◌≡◌, ◌≤◌, ◌⊎◌, eq-eqb, le-leb, lt-leb, ne_eqb}
+use Rattle.join_proc.proofs.AgreeLaws.{left-code, none-agrees}
 use Rattle.join_proc.proofs.IndexLaws.{first-row, next-match, next_row, rows-linked}
 use Rattle.join_proc.proofs.PlaceLaws.{filter-from, first-passes}
 
@@ -11,6 +11,39 @@ ltb-over a b e = grind arith
 none-behind : (pairs : List KeyPair) (l : Row) (rows : List Row) (n : ℕ) → length rows ≤ n
     → filter (agree pairs l) (drop n rows) ≡ []
 none-behind pairs l rows n le = ap (filter (agree pairs l)) (drop_all n rows le)
+
+-- the start of the row at a place, and those behind it
+starts-next : (firsts : List ℕ) (rows i : ℕ) (places : List ℕ) (full : List Bool)
+    → i < length places → i < length full
+    → starts_at firsts rows i (drop i places) (drop i full)
+    ≡ cond (ltb (get_or firsts (get_or places i 0) 0) rows && get_or full i true)
+    (record { left = i; next = get_or firsts (get_or places i 0) 0 }
+    ∷ starts_at firsts rows (suc i) (drop (suc i) places) (drop (suc i) full))
+    (starts_at firsts rows (suc i) (drop (suc i) places) (drop (suc i) full))
+starts-next firsts rows i places full lt less =
+    ap₂ (starts_at firsts rows i) (drop-cons places i 0 lt) (drop-cons full i true less)
+
+-- which is one of those where its key is full and there is a first right row
+pub starts-on : (firsts : List ℕ) (rows i : ℕ) (places : List ℕ) (full : List Bool)
+    → i < length places → i < length full → get_or firsts (get_or places i 0) 0 < rows
+    → get_or full i true ≡ true → (more starts : List LeftStart)
+    → more ≡ starts ++ record { left = i; next = get_or firsts (get_or places i 0) 0 } ∷ []
+    → more ++ starts_at firsts rows (i + 1) (drop (i + 1) places) (drop (i + 1) full)
+    ≡ starts ++ starts_at firsts rows i (drop i places) (drop i full)
+starts-on firsts rows i places full lt less some e more starts is =
+    let n = starts-next firsts rows i places full lt less in
+    grind (arith, append_assoc, n)
+
+-- else it isn't one of them
+pub starts-off : (firsts : List ℕ) (rows i : ℕ) (places : List ℕ) (full : List Bool)
+    → i < length places → i < length full
+    → (rows ≤ get_or firsts (get_or places i 0) 0) ⊎ (get_or full i true ≡ false)
+    → (more starts : List LeftStart) → more ≡ starts
+    → more ++ starts_at firsts rows (i + 1) (drop (i + 1) places) (drop (i + 1) full)
+    ≡ starts ++ starts_at firsts rows i (drop i places) (drop i full)
+starts-off firsts rows i places full lt less none more starts is =
+    let n = starts-next firsts rows i places full lt less in
+    grind (arith, n)
 
 -- ---- a chunk of which nothing is joined
 
@@ -30,52 +63,77 @@ module _ (pairs : List KeyPair) (x : JoinIndex) (is : IsIndexOf pairs x) (left :
   HasLeftKey l =
       AreKeyValues (plain_types_at x.rows.types (right_places pairs)) (key_at (left_places pairs) l)
 
+  abbrev full : Row → Bool
+  full l = is_full (left_places pairs) l
+
+  abbrev starts_from : ℕ → List Row → List LeftStart
+  starts_from i ls = starts_at x.firsts.items (length right) i (map place ls) (map full ls)
+
   one-begun : (l : Row) (ls : List Row) (i : ℕ) → i < length left → row_at left i ≡ l
-      → HasLeftKey l
-      → Begun (suc i) ls (starts_at x.firsts.items (length right) (suc i) (map place ls))
-      → Begun i (l ∷ ls) (starts_at x.firsts.items (length right) i (map place (l ∷ ls)))
-  one-begun l ls i lt here cell more = go (ltb first (length right)) refl
+      → HasLeftKey l → Begun (suc i) ls (starts_from (suc i) ls)
+      → Begun i (l ∷ ls) (starts_from i (l ∷ ls))
+  one-begun l ls i lt here cell more = by (full l) refl
     where
       first : ℕ
       first = get_or x.firsts.items (place l) 0
 
       rest : List LeftStart
-      rest = starts_at x.firsts.items (length right) (suc i) (map place ls)
+      rest = starts_from (suc i) ls
 
-      is-next : first ≡ next_row pairs l right 0
-      is-next = first-row pairs x is l (row_code (left_places pairs) l)
-          (left-code x.rows.types pairs l cell) (place l) refl
+      matched : full l ≡ true → (b : Bool) → ltb first (length right) ≡ b
+          → Begun i (l ∷ ls) (cond (b && true) (record { left = i; next = first } ∷ rest) rest)
+      matched f b e = go b e
+        where
+          is-next : first ≡ next_row pairs l right 0
+          is-next = first-row pairs x is l (row_code (left_places pairs) l)
+              (left-code x.rows.types pairs l f cell) (place l) refl
 
-      matches : filter (agree pairs l) right ≡ filter (agree pairs l) (drop first right)
-      matches = filter-from (agree pairs l) right 0 first is-next
+          matches : filter (agree pairs l) right ≡ filter (agree pairs l) (drop first right)
+          matches = filter-from (agree pairs l) right 0 first is-next
 
-      go : (b : Bool) → ltb first (length right) ≡ b
-          → Begun i (l ∷ ls) (cond b (record { left = i; next = first } ∷ rest) rest)
-      go true e =
-          let some = ltb-true first (length right) e in
-          let passes = first-passes (agree pairs l) right 0 first is-next some in
-          record {
-            fit = (
+          go : (b : Bool) → ltb first (length right) ≡ b
+              → Begun i (l ∷ ls) (cond (b && true) (record { left = i; next = first } ∷ rest) rest)
+          go true e =
+              let some = ltb-true first (length right) e in
+              let passes = first-passes (agree pairs l) right 0 first is-next some in
               record {
-                left_within = lt;
-                right_within = some;
-                agrees = ap (λ r. agree pairs r (row_at right first)) here ∙ passes;
-              },
-              more.fit,
-            );
-            rows = ap₂ ◌++◌ (ap (λ r. map (λ s. r ++ s) (filter (agree pairs r) (drop first right)))
-                here ∙ ap (map (λ s. l ++ s)) (sym matches)) more.rows;
+                fit = (
+                  record {
+                    left_within = lt;
+                    right_within = some;
+                    agrees = ap (λ r. agree pairs r (row_at right first)) here ∙ passes;
+                  },
+                  more.fit,
+                );
+                rows = ap₂ ◌++◌ (ap (λ r. map (λ s. r ++ s)
+                    (filter (agree pairs r) (drop first right))) here
+                    ∙ ap (map (λ s. l ++ s)) (sym matches)) more.rows;
+              }
+          go false e = record {
+            fit = more.fit;
+            rows = more.rows ∙ ap (λ m. map (λ s. l ++ s) m ++ joined_rows pairs ls right)
+                (sym (matches
+                ∙ none-behind pairs l right first (ltb-over first (length right) e)));
           }
-      go false e = record {
-        fit = more.fit;
-        rows = more.rows ∙ ap (λ m. map (λ s. l ++ s) m ++ joined_rows pairs ls right)
-            (sym (matches ∙ none-behind pairs l right first (ltb-over first (length right) e)));
-      }
+
+      never : (b : Bool) → (b && false) ≡ false
+      never true = refl
+      never false = refl
+
+      by : (f : Bool) → full l ≡ f → Begun i (l ∷ ls)
+          (cond (ltb first (length right) && f) (record { left = i; next = first } ∷ rest) rest)
+      by true f = matched f (ltb first (length right)) refl
+      by false f = subst (λ b. Begun i (l ∷ ls)
+          (cond b (record { left = i; next = first } ∷ rest) rest))
+          (sym (never (ltb first (length right)))) (record {
+            fit = more.fit;
+            rows = more.rows ∙ ap (λ m. map (λ s. l ++ s) m ++ joined_rows pairs ls right)
+                (sym (none-agrees pairs l f right));
+          })
 
   begun : (ls : List Row) (i : ℕ) → i + length ls ≡ length left
       → ((k : ℕ) → k < length ls → row_at left (i + k) ≡ row_at ls k)
-      → AllByRecursion HasLeftKey ls
-      → Begun i ls (starts_at x.firsts.items (length right) i (map place ls))
+      → AllByRecursion HasLeftKey ls → Begun i ls (starts_from i ls)
   begun [] i long at cells = record { fit = tt; rows = refl }
   begun (l ∷ ls) i long at cells =
       let here : row_at left i ≡ l = ap (row_at left) (omega arith) ∙ at 0 (omega arith) in
@@ -85,8 +143,7 @@ module _ (pairs : List KeyPair) (x : JoinIndex) (is : IsIndexOf pairs x) (left :
 
   -- None of a chunk's rows is joined, and all are left.
   pub starts-left : (l : LeftRows) → l.chunk.rows ≡ left → l.at ≡ 0
-      → AllByRecursion HasLeftKey left
-      → l.starts.items ≡ starts_at x.firsts.items (length right) 0 (map place left)
+      → AllByRecursion HasLeftKey left → l.starts.items ≡ starts_from 0 left
       → AreStarts pairs left right l
   starts-left l e at cells s =
       let b = begun left 0 (omega arith) (λ k lt. ap (row_at left) (omega arith)) cells in

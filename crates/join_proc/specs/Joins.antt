@@ -1,14 +1,14 @@
 -- Where a right side's keys are, and the pairs of rows that a left chunk's rows make with them.
-use Rattle.chunk_data.specs.Names.{Row, Table, append_each, row_at}
+use Rattle.chunk_data.specs.Names.{Row, Table, append_each, is_null, row_at}
 use Rattle.join_proc.specs.declared.join_index.JoinIndex.{JoinIndex}
 use Rattle.join_proc.specs.declared.left_rows.LeftRows.{LeftRows}
 use Rattle.join_proc.specs.declared.left_rows.PlacePairs.{PlacePairs}
 use Rattle.join_proc.specs.declared.left_rows.LeftStart.{LeftStart}
-use Rattle.key_codes.specs.Keys.{HasKey, IsSeenFor, codes_in, places_from, plain_types_at, row_code, same_code, with_key}
+use Rattle.key_codes.specs.Keys.{HasKey, IsSeenFor, codes_in, key_at, places_from, plain_types_at, row_code, same_code, with_key}
 use Rattle.proc_api.specs.Prelude.{JoinSpec, KeyPair}
 use Rattle.query_model.specs.Names.{agree, joined_rows}
-use Rattle.std.specs.List.{All, position_or_len}
-use Rattle.std.specs.Prelude.{List, [], cond, drop, filter, flat_map, fold, length, map, max, nat_eq, nat_lt, slice_index_or, slice_set, suc, true, ℕ, ◌++◌, ◌+◌, ◌<◌, ◌∷◌, ◌≡◌, ◌≤◌, ◌⊎◌}
+use Rattle.std.specs.List.{All, list_any, position_or_len}
+use Rattle.std.specs.Prelude.{Bool, List, [], cond, drop, filter, flat_map, fold, length, map, max, nat_eq, nat_lt, not, slice_index_or, slice_set, suc, true, ℕ, ◌&&◌, ◌++◌, ◌+◌, ◌<◌, ◌∷◌, ◌≡◌, ◌≤◌, ◌⊎◌}
 
 -- the columns of either side that must agree
 abbrev pub left_places : List KeyPair → List ℕ
@@ -53,13 +53,20 @@ pub record IsIndexOf (pairs : List KeyPair) (x : JoinIndex) : Type 0 where
 abbrev pub no_start : LeftStart
 no_start = record { left = 0; next = 0 }
 
--- the rows at these places that have a first right row, from row i on
-abbrev pub starts_at : (firsts : List ℕ) (rows i : ℕ) → (places : List ℕ) → List LeftStart
-starts_at firsts rows i [] = []
-starts_at firsts rows i (p ∷ places) =
-    cond (nat_lt (slice_index_or firsts p 0) rows)
-    (record { left = i; next = slice_index_or firsts p 0 } ∷ starts_at firsts rows (suc i) places)
-    (starts_at firsts rows (suc i) places)
+-- no value of the row's key is NULL, so that it may agree with others
+abbrev pub is_full : List ℕ → Row → Bool
+is_full columns row = not (list_any is_null (key_at columns row))
+
+-- the rows at these places that have a full key and a first right row, from row i on
+abbrev pub starts_at : (firsts : List ℕ) (rows i : ℕ) → (places : List ℕ) → (full : List Bool)
+    → List LeftStart
+starts_at firsts rows i [] full = []
+starts_at firsts rows i (p ∷ places) [] = []
+starts_at firsts rows i (p ∷ places) (f ∷ full) =
+    cond (nat_lt (slice_index_or firsts p 0) rows && f)
+    (record { left = i; next = slice_index_or firsts p 0 }
+    ∷ starts_at firsts rows (suc i) places full)
+    (starts_at firsts rows (suc i) places full)
 
 -- a left row, and a right row that agrees with it
 pub record IsStart (pairs : List KeyPair) (left right : List Row) (s : LeftStart) : Type 0 where

@@ -1,7 +1,8 @@
-ghost use Rattle.std.specs.Prelude.{◌≡◌, ◌<◌, ◌≤◌, suc, [], length, slice_index_or, slice_set, IfOk, OnOk};
+ghost use Rattle.std.specs.Prelude.{◌≡◌, ◌<◌, ◌≤◌, suc, [], length, map, slice_index_or, slice_set, IfOk, OnOk};
 ghost use Rattle.std.specs.List.{All};
 ghost use Rattle.proc_api.specs.kinds.HashJoin.{AreKeyPairs};
-ghost use Rattle.join_proc.specs.Joins.{AreLinked, AreStarts, IsIndexOf, starts_at};
+ghost use Rattle.chunk_data.specs.Names.{row_at};
+ghost use Rattle.join_proc.specs.Joins.{AreLinked, AreStarts, IsIndexOf, is_full as has_full_key, starts_at};
 
 use crate::fitting::{left_columns, right_columns};
 use crate::left_rows::{LeftRows, LeftStart};
@@ -56,20 +57,39 @@ fn copies(alloc: Global, number: usize, count: usize) -> Result<Vec<usize>, Memo
     Ok(numbers)
 }
 
+// Whether no value of the row's key is NULL. A row whose key has NULL agrees with none.
+fn is_full(chunk: &Chunk, columns: &[usize], i: usize) -> bool
+    requires within { All (λ c. c < length chunk.now.types) columns.now }
+    requires row { i < length chunk.now.rows }
+    ensures { result ≡ has_full_key columns.now (row_at chunk.now.rows i) }
+{
+    for column in columns {
+        if !chunk.column(*column).is_valid(i) {
+            return false;
+        }
+    }
+    true
+}
+
 // The rows of a left chunk that agree with one, each with the first of these.
 fn starts_of(
     alloc: Global,
+    chunk: &Chunk,
+    columns: &[usize],
     firsts: &[usize],
     places: &[usize],
     rows: usize,
 ) -> Result<Vec<LeftStart>, Memory>
-    requires { All (λ p. p < length firsts.now) places.now }
-    ensures { IfOk result (λ v. v.items ≡ starts_at firsts.now rows 0 places.now) }
+    requires within { All (λ c. c < length chunk.now.types) columns.now }
+    requires places { All (λ p. p < length firsts.now) places.now }
+    requires long { length places.now ≡ length chunk.now.rows }
+    ensures { IfOk result (λ v. v.items
+        ≡ starts_at firsts.now rows 0 places.now (map (has_full_key columns.now) chunk.now.rows)) }
 {
     let mut starts = Vec::with_capacity(alloc, places.len())?;
     for left in 0..places.len() {
         let next = firsts[places[left]];
-        if next < rows {
+        if next < rows && is_full(chunk, columns, left) {
             starts.push(LeftStart { left, next })?;
         }
     }
@@ -123,9 +143,11 @@ impl JoinIndex {
         ensures starts { IfOk result (AreStarts join.now.pairs chunk.rows self.new.rows.rows) }
     {
         let columns = left_columns(alloc, join)?;
-        let places = find_places(&mut self.seen, alloc, false, columns.as_slice(), &chunk)?;
+        let columns = columns.as_slice();
+        let places = find_places(&mut self.seen, alloc, false, columns, &chunk)?;
         let firsts = self.firsts.as_slice();
-        let starts = starts_of(alloc, firsts, places.as_slice(), self.rows.rows())?;
+        let rows = self.rows.rows();
+        let starts = starts_of(alloc, &chunk, columns, firsts, places.as_slice(), rows)?;
         Ok(LeftRows {
             chunk,
             starts,

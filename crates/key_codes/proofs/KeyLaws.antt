@@ -1,5 +1,5 @@
 -- Keys that have one code are one key.
-use Rattle.key_codes.proofs.Imports.{◌≡◌, ℕ, suc, ◌<◌, ◌≤◌, ◌+◌, ◌^◌, ◌≢◌, Bool, true, false, append_assoc, List, [], ◌∷◌, ◌++◌, length, map, flat_map, replicate, take, drop, get_or, refl, sym, ap, ap₂, ◌∙◌, arith, fold, w64, inl, inr, subst, cond, ◌||◌, IfOk, OnOk, Result, Vec, ℤ, pos, Int, UInt, Text, is_plain_text, is_text, plain_type, PlainType, common_steps, All, All-map, AllByRecursion, AreKeyValues, ColumnType, FindsCode, FindsCodes, HasKey, IsCell, IsSame, Row, Value, append-nil, at_drop_more, cases_eq, cases_lt, drop_at, first_plain_type, first_key_column, flat_map-append, from_le_bytes-to_le_bytes_8, get_or-map, get_or_default, key_at, key_code, length-map, map-map, row_code, type_at, list_any, map-append, nat_list_eq_equiv, places_from, position_or_len, same_code, same_row, same_row_is, same_text, take-suc, take_at, to_le_bytes, value_at, value_bytes, value_code, with_key, plain_types_at}
+use Rattle.key_codes.proofs.Imports.{◌≡◌, ℕ, suc, ◌<◌, ◌≤◌, ◌+◌, ◌^◌, ◌≢◌, Bool, true, false, append_assoc, List, [], ◌∷◌, ◌++◌, length, map, flat_map, replicate, take, drop, get_or, refl, sym, ap, ap₂, ◌∙◌, arith, fold, w64, subst, cond, ◌||◌, IfOk, OnOk, Result, Vec, ℤ, pos, Int, Null, UInt, Text, not, is_null, or_null, is_plain_text, is_text, plain_type, PlainType, common_steps, All, All-map, AllByRecursion, AreKeyValues, ColumnType, FindsCode, FindsCodes, HasKey, IsCell, IsSame, Row, Value, append-nil, at_drop_more, byte_code, cases_lt, drop_all, drop_at, first_plain_type, first_key_column, flat_map-append, from_le_bytes-to_le_bytes_8, get_or-map, get_or_default, key_at, key_bytes, key_code, length-map, list_any-append, null_mark, null_marks, map-map, row_code, type_at, list_any, map-append, nat_list_eq_equiv, places_from, position_or_len, same_code, same_row, same_row_is, same_text, take-suc, take_at, to_le_bytes, value_at, value_bytes, value_code, with_key, plain_types_at}
 use Rattle.chunk_data.specs.declared.typed_value.ColumnType.TheVariants as column
 use Rattle.chunk_data.specs.declared.typed_value.PlainType.TheVariants as plain
 use Rattle.key_codes.proofs.CodeLaws.{map-insert}
@@ -10,9 +10,14 @@ same_code_is = record {
   one = λ x y e. same_text x y (sym e);
 }
 
--- a value, and what follows it
+cells-long : (types : List PlainType) (a : Row) → AreKeyValues types a → length a ≡ length types
+cells-long [] [] h = refl
+cells-long (t ∷ types) (v ∷ a) h = ap suc (cells-long types a h.1)
+cells-long _ _ h = absurd h
+
+-- a value, and what follows it; whether it is NULL is told elsewhere
 record AreOne (v w : Value) (xs ys : List ℕ) : Type 0 where
-  value : v ≡ w
+  value : is_null v ≡ is_null w → v ≡ w
   rest : xs ≡ ys
 
 split : (a b xs ys : List ℕ) → length a ≡ length b → a ++ xs ≡ b ++ ys → (a ≡ b) × (xs ≡ ys)
@@ -25,52 +30,112 @@ number-bytes : (m n : ℕ) (xs ys : List ℕ) → m < 2 ^ 64 → n < 2 ^ 64
     → to_le_bytes w64 m ++ xs ≡ to_le_bytes w64 n ++ ys → (m ≡ n) × (xs ≡ ys)
 number-bytes m n xs ys p q e = search (arith, split, from_le_bytes-to_le_bytes_8)
 
+text-bytes : (a b xs ys : List ℕ) → length a < 2 ^ 64 → length b < 2 ^ 64
+    → (to_le_bytes w64 (length a) ++ a) ++ xs ≡ (to_le_bytes w64 (length b) ++ b) ++ ys
+    → (a ≡ b) × (xs ≡ ys)
+text-bytes a b xs ys p q e = search (arith, number-bytes, append_assoc, split)
+
+-- the bytes of NULL are those of the empty text
+null-bytes : (a xs ys : List ℕ) → length a < 2 ^ 64
+    → to_le_bytes w64 0 ++ xs ≡ (to_le_bytes w64 (length a) ++ a) ++ ys → xs ≡ ys
+null-bytes a xs ys p e = (text-bytes [] a xs ys (omega arith) p
+    (ap (λ l. l ++ xs) (append-nil (to_le_bytes w64 0)) ∙ e)).1
+
 values-one : (t : PlainType) (v w : Value) (xs ys : List ℕ) → IsCell t v → IsCell t w
     → value_bytes v ++ xs ≡ value_bytes w ++ ys → AreOne v w xs ys
 values-one t (Int y) (Int z) xs ys p q e = grind (arith, number-bytes)
 values-one t (UInt m) (UInt n) xs ys p q e = grind (arith, number-bytes)
-values-one t (Text a) (Text b) xs ys p q e = search (arith, number-bytes, append_assoc, split)
+values-one t (Text a) (Text b) xs ys p q e = grind (arith, text-bytes)
+values-one t Null Null xs ys p q e = grind (arith, number-bytes)
+values-one t Null (Int z) xs ys p q e = grind (arith, number-bytes)
+values-one t Null (UInt n) xs ys p q e = grind (arith, number-bytes)
+values-one t Null (Text b) xs ys p q e =
+    let rest = null-bytes b xs ys q.1 e in grind (arith, rest)
+values-one t (Int z) Null xs ys p q e = grind (arith, number-bytes)
+values-one t (UInt n) Null xs ys p q e = grind (arith, number-bytes)
+values-one t (Text a) Null xs ys p q e =
+    let rest = sym (null-bytes a ys xs p.1 (sym e)) in grind (arith, rest)
 values-one t v w xs ys p q e = grind arith
 
+-- keys whose values have the same bytes are one where the same values are NULL
+record AreAlike (a b : Row) (xs ys : List ℕ) : Type 0 where
+  keys : map is_null a ≡ map is_null b → a ≡ b
+  rest : xs ≡ ys
+
+keys-alike : (types : List PlainType) (a b : Row) (xs ys : List ℕ) → AreKeyValues types a
+    → AreKeyValues types b → flat_map value_bytes a ++ xs ≡ flat_map value_bytes b ++ ys
+    → AreAlike a b xs ys
+keys-alike [] [] [] xs ys p q e = record { keys = λ same. refl; rest = e }
+keys-alike [] (v ∷ a) b xs ys p q e = absurd p
+keys-alike (t ∷ types) [] b xs ys p q e = absurd p
+keys-alike (t ∷ types) (v ∷ a) (w ∷ b) xs ys p q e =
+    let here = values-one t v w (flat_map value_bytes a ++ xs) (flat_map value_bytes b ++ ys)
+    p.0 q.0 (sym (append_assoc (value_bytes v) (flat_map value_bytes a) xs) ∙ e
+    ∙ append_assoc (value_bytes w) (flat_map value_bytes b) ys) in
+    let more = keys-alike types a b xs ys p.1 q.1 here.rest in
+    record { keys = λ same. grind (arith, here.value, more.keys); rest = more.rest }
+keys-alike _ _ _ xs ys p q e = absurd q
+
+marks-one : (a b : Row) → map null_mark a ≡ map null_mark b → map is_null a ≡ map is_null b
+marks-one [] [] e = refl
+marks-one (v ∷ a) (w ∷ b) e = grind (arith, common_steps, marks-one a b)
+marks-one a b e = grind arith
+
+none-null : (a : Row) → list_any is_null a ≡ false → map is_null a ≡ replicate (length a) false
+none-null [] e = refl
+none-null (v ∷ a) e = grind (arith, common_steps, none-null a)
+
+-- the marks tell which values are NULL
+null-marks : (a b : Row) → length a ≡ length b → null_marks a ≡ null_marks b
+    → map is_null a ≡ map is_null b
+null-marks a b l e = by (list_any is_null a) (list_any is_null b) refl refl
+  where
+    some-marks : (a : Row) → list_any is_null a ≡ true → map null_mark a ≡ [] → ⊥
+    some-marks [] f e = absurd cc
+    some-marks (v ∷ a) f e = absurd cc
+
+    by : (s t : Bool) → list_any is_null a ≡ s → list_any is_null b ≡ t
+        → map is_null a ≡ map is_null b
+    by true true f g = marks-one a b (grind (arith, common_steps))
+    by false false f g =
+        none-null a f ∙ ap (λ n. replicate n false) l ∙ sym (none-null b g)
+    by true false f g = absurd (some-marks a f (grind (arith, common_steps)))
+    by false true f g = absurd (some-marks b g (grind (arith, common_steps)))
+
 bytes-one : (types : List PlainType) (a b : Row) → AreKeyValues types a → AreKeyValues types b
-    → flat_map value_bytes a ≡ flat_map value_bytes b → a ≡ b
-bytes-one [] [] [] p q e = refl
-bytes-one [] (v ∷ a) b p q e = absurd p
-bytes-one (t ∷ types) [] b p q e = absurd p
-bytes-one (t ∷ types) (v ∷ a) (w ∷ b) p q e = grind (arith, values-one t v w, bytes-one types a b)
-bytes-one _ _ _ p q e = absurd q
+    → key_bytes a ≡ key_bytes b → a ≡ b
+bytes-one types a b p q e =
+    let alike = keys-alike types a b (null_marks a) (null_marks b) p q e in
+    alike.keys (null-marks a b (cells-long types a p ∙ sym (cells-long types b q)) alike.rest)
 
 value-one : (t : PlainType) (v w : Value) → IsCell t v → IsCell t w
     → value_code v ≡ value_code w → v ≡ w
 value-one t v w p q e = grind arith
 
-cells-long : (types : List PlainType) (a : Row) → AreKeyValues types a → length a ≡ length types
-cells-long [] [] h = refl
-cells-long (t ∷ types) (v ∷ a) h = ap suc (cells-long types a h.1)
-cells-long _ _ h = absurd h
-
-pub many-code : (key : Row) → length key ≢ 1 → key_code key ≡ flat_map value_bytes key
-many-code key ne = grind (arith, common_steps)
+pub many-code : (key : Row) → 1 < length key → key_code key ≡ byte_code (key_bytes key)
+many-code [] lt = absurd (omega (arith, lt))
+many-code (v ∷ []) lt = absurd (omega (arith, lt))
+many-code (v ∷ w ∷ key) lt = refl
 
 key-one : (types : List PlainType) (a b : Row) → AreKeyValues types a → AreKeyValues types b
     → key_code a ≡ key_code b → a ≡ b
-key-one types a b p q e =
-    let l = cells-long types a p in
-    let m = cells-long types b q in
-    elim (cases_eq (length types) 1) [
-      | inl one ↦ single types a b p q (l ∙ one) (m ∙ one) e
-      | inr ne ↦ bytes-one types a b p q
-          (sym (many-code a (λ f. ne (sym l ∙ f))) ∙ e ∙ many-code b (λ f. ne (sym m ∙ f)))
-    ]
+key-one types a b p q e = by a b refl refl
   where
-    single : (types : List PlainType) (a b : Row) → AreKeyValues types a → AreKeyValues types b
-        → length a ≡ 1 → length b ≡ 1 → key_code a ≡ key_code b → a ≡ b
-    single [] a b p q l m e = absurd (let n = cells-long [] a p in omega (arith, n, l))
-    single (t ∷ types) [] b p q l m e = absurd p
-    single (t ∷ types) (v ∷ a) [] p q l m e = absurd q
-    single (t ∷ types) (v ∷ []) (w ∷ []) p q l m e = ap (λ x. x ∷ []) (value-one t v w p.0 q.0 e)
-    single (t ∷ types) (v ∷ []) (w ∷ y ∷ b) p q l m e = absurd (omega (arith, m))
-    single (t ∷ types) (v ∷ x ∷ a) b p q l m e = absurd (omega (arith, l))
+    long : length a ≡ length b
+    long = cells-long types a p ∙ sym (cells-long types b q)
+
+    single : (types : List PlainType) (v w : Value) → AreKeyValues types (v ∷ [])
+        → AreKeyValues types (w ∷ []) → value_code v ≡ value_code w → v ≡ w
+    single [] v w p q e = absurd p
+    single (t ∷ types) v w p q e = value-one t v w p.0 q.0 e
+
+    by : (x y : Row) → a ≡ x → b ≡ y → a ≡ b
+    by [] [] f g = f ∙ sym g
+    by (v ∷ []) (w ∷ []) f g =
+        f ∙ ap (λ x. x ∷ []) (single types v w (subst (AreKeyValues types) f p)
+        (subst (AreKeyValues types) g q) (sym (ap key_code f) ∙ e ∙ ap key_code g)) ∙ sym g
+    by (v ∷ u ∷ x) (w ∷ z ∷ y) f g = bytes-one types a b p q (grind (arith, many-code))
+    by x y f g = absurd (omega (arith, long, ap length f, ap length g))
 
 both-or-none : (a b : Bool) (P : Type 0) → (a ≡ true → P) → (P → b ≡ true) → (b ≡ true → P)
     → (P → a ≡ true) → a ≡ b
@@ -155,6 +220,23 @@ pub bytes-next : (places : List ℕ) (k : ℕ) (row : Row) (code : List ℕ) (v 
     → code ≡ flat_map value_bytes (key_at (take (k + 1) places) row)
 bytes-next places k row code v lt e is = search (arith, append-nil, key-next, flat_map-append)
 
+-- whether one of the values so far is NULL
+pub null-next : (places : List ℕ) (k : ℕ) (row : Row) (some null : Bool) (v : Value)
+    → k < length places → some ≡ list_any is_null (key_at (take k places) row)
+    → null ≡ is_null v → v ≡ value_at row (get_or places k 0)
+    → (some || null) ≡ list_any is_null (key_at (take (k + 1) places) row)
+null-next places k row some null v lt e f is =
+    search (arith, common_steps, key-next, list_any-append)
+
+-- the mark of one value more
+pub marks-next : (places : List ℕ) (k : ℕ) (row : Row) (code more : List ℕ) (valid : Bool)
+    (v : Value) → k < length places → value_at row (get_or places k 0) ≡ or_null valid v
+    → is_null v ≡ false → code ≡ more ++ map null_mark (key_at (take k places) row)
+    → code ++ cond (not valid) 1 0 ∷ []
+    ≡ more ++ map null_mark (key_at (take (k + 1) places) row)
+marks-next places k row code more valid v lt is plain e =
+    search (arith, common_steps, key-next, map-append, append_assoc)
+
 cells-append : (types : List PlainType) (key : Row) (t : PlainType) (v : Value)
     → AreKeyValues types key → IsCell t v → AreKeyValues (types ++ t ∷ []) (key ++ v ∷ [])
 cells-append [] [] t v h p = (p, tt)
@@ -225,6 +307,16 @@ module _ (adds : Bool) (codes old : List (List ℕ)) where
         ∙ sym (at_drop_more (fold (with_key adds same_code) seen) codes i [] lt) ∙ h.codes_left;
   }
 
+  -- all of them
+  pub finds-all : (i : ℕ) (new : List (List ℕ)) (places : List ℕ) → length codes ≤ i
+      → FindsSome i new places → FindsCodes adds codes old new places
+  finds-all i new places le h = record {
+    is = sym (append-nil places)
+        ∙ ap (λ l. places ++ places_from adds same_code new l) (sym (drop_all i codes le))
+        ∙ h.places_left;
+    seen = ap (fold (with_key adds same_code) new) (sym (drop_all i codes le)) ∙ h.codes_left;
+  }
+
 -- ---- the codes of a chunk's keys
 
 -- a key of no columns
@@ -260,9 +352,8 @@ one-keys types places rows kind vs one e lt is cells = λ k d less.
     (cells k (Text []) within))
 
 -- texts are their own codes
-pub text-codes : (texts : List (List ℕ)) → texts ≡ map value_code (map Text texts)
-text-codes [] = refl
-text-codes (text ∷ texts) = ap (λ l. text ∷ l) (text-codes texts)
+pub text-codes : (texts : List (List ℕ)) → map byte_code texts ≡ map value_code (map Text texts)
+text-codes texts = sym (map-map value_code Text texts)
 
 pub text-cells : (t : PlainType) (texts : List (List ℕ)) → is_plain_text t ≡ true
     → All (λ (text : List ℕ). length text < 2 ^ 64) texts → All (IsCell t) (map Text texts)
@@ -292,9 +383,11 @@ pub one-form : (types : List ColumnType) (places : List ℕ) (b : Bool)
     → (length places ≡ 1) × (is_text (type_at types (first_key_column places)) ≡ b)
 one-form types places b one e = grind (arith, kinds-long, first-kind)
 
-pub several-code : (places : List ℕ) (row : Row) (code : List ℕ) → length places ≢ 1
-    → code ≡ flat_map value_bytes (key_at places row) → code ≡ row_code places row
-several-code places row code ne e = grind (arith, many-code, length-map)
+pub several-code : (places : List ℕ) (row : Row) (code : List ℕ) → 1 < length places
+    → code ≡ key_bytes (key_at places row) → byte_code code ≡ row_code places row
+several-code places row code lt e =
+    ap byte_code e ∙ sym (many-code (key_at places row)
+    (omega (arith, lt, length-map places (value_at row))))
 
 -- each value of a column has what was seen of each
 pub cells-of : {A : Type 0} (kind : PlainType) (value : A → Value) (xs : List A) (d : A) (i : ℕ)

@@ -1,7 +1,7 @@
 ghost use Rattle.std.specs.Prelude.{◌≡◌, ◌<◌, [], fold, length, map, OnOk, IfOk, All};
 ghost use Rattle.key_codes.specs.Keys.{HasKey, IsSeenFor, codes_in, places_from, plain_types_at, row_code, same_code, with_key};
 
-use crate::places::{bits_of, code_places, number_places, text_places, whole_places};
+use crate::places::{bits_of, code_places, number_places, text_places, texts_of, whole_places};
 use chunk_data::{Chunk, ColumnType, Memory, type_at};
 use indexmap::IndexSet;
 use std::alloc::Global;
@@ -11,9 +11,11 @@ use std::alloc::Global;
 pub enum SeenKeys {
     /// Without columns all rows have one key, which is there once a row came.
     Whole(bool),
-    /// A key of one number, by its bits.
-    Numbers(IndexSet<u64>),
-    /// A key of one text, by its bytes, or of several values, by the bytes of all.
+    /// A key of one number, by its bits, and the place of NULL once it came.
+    Numbers(IndexSet<u64>, Option<usize>),
+    /// A key of one text, by its bytes, and the place of NULL once it came.
+    Texts(IndexSet<Vec<u8>>, Option<usize>),
+    /// A key of several values, by the bytes of all.
     Bytes(IndexSet<Vec<u8>>),
 }
 
@@ -26,10 +28,13 @@ impl SeenKeys {
         if places.len() == 0 {
             return SeenKeys::Whole(false);
         }
-        if places.len() == 1 && !type_at(types, places[0]).is_text() {
-            return SeenKeys::Numbers(IndexSet::new(alloc));
+        if places.len() != 1 {
+            return SeenKeys::Bytes(IndexSet::new(alloc));
         }
-        SeenKeys::Bytes(IndexSet::new(alloc))
+        if type_at(types, places[0]).is_text() {
+            return SeenKeys::Texts(IndexSet::new(alloc), None);
+        }
+        SeenKeys::Numbers(IndexSet::new(alloc), None)
     }
 
     /// How many there are.
@@ -38,14 +43,16 @@ impl SeenKeys {
     {
         match self {
             SeenKeys::Whole(some) => *some as usize,
-            SeenKeys::Numbers(numbers) => numbers.len(),
+            SeenKeys::Numbers(numbers, null) => numbers.len() + null.is_some() as usize,
+            SeenKeys::Texts(texts, null) => texts.len() + null.is_some() as usize,
             SeenKeys::Bytes(codes) => codes.len(),
         }
     }
 }
 
-/// The place of each row's key, its values at the places. New keys go to the end where they are
-/// added; else the place of one that isn't there is the number of those that are.
+/// The place of each row's key, its values at the places, where NULL is a value like any other. New
+/// keys go to the end where they are added; else the place of one that isn't there is the number of
+/// those that are.
 pub fn find_places(
     seen: &mut SeenKeys,
     alloc: Global,
@@ -66,15 +73,23 @@ pub fn find_places(
 {
     match seen {
         SeenKeys::Whole(some) => whole_places(some, alloc, adds, chunk.rows()),
-        SeenKeys::Numbers(numbers) => {
-            let bits = bits_of(alloc, chunk.column(places[0]))?;
-            number_places(numbers, alloc, adds, bits.as_slice())
+        SeenKeys::Numbers(numbers, null) => {
+            let column = chunk.column(places[0]);
+            let bits = bits_of(alloc, column)?;
+            let validity = column.validity();
+            number_places(numbers, null, alloc, adds, bits.as_slice(), validity)
         }
-        SeenKeys::Bytes(codes) => {
-            if places.len() == 1 {
-                return text_places(codes, alloc, adds, chunk.column(places[0]).texts());
-            }
-            code_places(codes, alloc, adds, places, chunk)
+        SeenKeys::Texts(texts, null) => {
+            let column = chunk.column(places[0]);
+            text_places(
+                texts,
+                null,
+                alloc,
+                adds,
+                texts_of(column),
+                column.validity(),
+            )
         }
+        SeenKeys::Bytes(codes) => code_places(codes, alloc, adds, places, chunk),
     }
 }

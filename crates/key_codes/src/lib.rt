@@ -3,8 +3,8 @@
 //!
 //! - `key_code`: the keys seen, each by its code, and the places of a chunk's keys among them. A
 //!   key of one number is looked up by its bits, one of a text by its bytes, one of several values
-//!   by the bytes of all; without columns nothing is looked up. Keys have one code where they are
-//!   one.
+//!   by the bytes of all; without columns nothing is looked up. NULL has a code that no number and
+//!   no text has. Keys have one code where they are one.
 //! - `places`: the places of the codes of a chunk, one loop a form of code.
 #![tactic(auto)]
 

@@ -1,4 +1,4 @@
-use Rattle.key_codes.proofs.Imports.{◌≡◌, ◌<◌, [], length, map, ◌∙◌, sym, subst, arith, inl, inr, HasKey, byte_codes, cases_lt, get_or-map, get_or_default, length-map, row_at, row_code}
+use Rattle.key_codes.proofs.Imports.{◌≡◌, ◌<◌, [], length, map, ◌∙◌, ap, sym, subst, arith, inl, inr, HasKey, byte_code, byte_codes, cases_lt, get_or-map, get_or_default, length-map, row_at, row_code}
 use Rattle.key_codes.proofs.KeyLaws.{finds-next, several-code}
 use Rattle.key_codes.proofs.places.code_places.Goals as goal
 
@@ -9,7 +9,7 @@ loop-i-preserved c =
     let f = row_code c.args.places.now in
     let lt : i < length rows = omega (arith, c.rows-i-end.ensures.count) in
     let long = length-map rows f in
-    let is = c.as_slice.ensures.value
+    let is = ap byte_code c.as_slice.ensures.value
     ∙ several-code c.args.places.now (row_at rows i) _ c.requires.several
     c.in_ok-write_code.ensures.code ∙ sym (get_or-map f rows i [] [] lt) in (
       finds-next c.args.adds (map f rows) (byte_codes c.args.seen.now) i (byte_codes c.loop-i.seen)

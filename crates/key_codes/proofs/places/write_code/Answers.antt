@@ -1,5 +1,5 @@
 use Rattle.key_codes.proofs.Imports.{◌<◌, ◌++◌, length, get_or, ap, ◌∙◌, arith, column_type, row_at, value_at, value_bytes, values}
-use Rattle.key_codes.proofs.KeyLaws.{bytes-next, cell-type, cell-value, cells-next}
+use Rattle.key_codes.proofs.KeyLaws.{bytes-next, cell-type, cell-value, cells-next, null-next}
 use Rattle.key_codes.proofs.places.write_code.Goals as goal
 
 pub loop-place-preserved : goal.loop-place-preserved
@@ -14,9 +14,11 @@ loop-place-preserved c =
     let cell = value_at (values c.column.result.now) c.args.i in
     let is = cell-value c.args.chunk.now.rows at c.args.i (values c.column.result.now)
     c.column.ensures.values c.requires.row in (
-      bytes-next places k row c.push_value.new.code.items cell lt (c.in_ok-push_value.ensures.code
+      bytes-next places k row c.push_value.new.code.items cell lt (c.in_ok-null.ensures.code
           ∙ ap (λ l. l ++ value_bytes cell) c.loop-place.invariant.0) is,
-      cells-next types places k row c.loop-place.invariant.1 lt
+      c.either-some_null.ensures ∙ null-next places k row c.loop-place.some_null c.in_ok-null.null
+          cell lt c.loop-place.invariant.1 c.in_ok-null.ensures.null is,
+      cells-next types places k row c.loop-place.invariant.2 lt
           (cell-type types at (column_type c.column.result.now) cell _ c.column.ensures.kind within
           is c.push_value.ensures.cell),
     )
