@@ -1,4 +1,5 @@
 pub mod Imports
+mod TextRanks
 mod RankLaws
 mod SortingLaws
 mod HeadLaws

@@ -1,147 +1,9 @@
 -- A lower rank is that of a row that comes before, so that places sorted by ranks and keys are
 -- those of the rows in order.
-use Rattle.std.proofs.Common.{◌≡◌, ◌≢◌, ◌⊎◌, ℕ, zero, suc, ◌+◌, ◌-◌, ◌*◌, ◌%◌, ◌<◌, ◌≤◌, leb, Bool, true, false, cond, nat_lt, List, [], ◌∷◌, length, map, get_or, drop, take, ◌++◌, refl, sym, ap, ap₂, subst, ◌∙◌, arith, inl, inr, IsPermutation, IsSorted, append_assoc}
-use Rattle.sort_procs.proofs.Imports.{AgreeOnKey, All, All-append, All-cons, All-drop, All-map, All-permutation, All-take, AllByRecursion, AreBytes, AreRanks, ColumnType, Equal, FitsType, FitsTypes, FitsTypes-at, Greater, HasRanks, Int, IsKeyRank, IsPermutation-append_left, IsPermutation-append_right, IsPermutation-trans, IsRank, IsSortedBy, IsSplit, IsStrictWeakOrder, IsTable, IsTotalOrder, IsValueRank, Less, Ordering, PutsFront, PutsMore, Ranked, Row, SortKey, Table, Text, UInt, Value, add-mul-mod_self_right, any_order, bool_cmp, bool_cmp_total, byte_weight, bytes_told, cases_lt, count_up, digit, drop-append_seam, drop-cons, drop-drop, drop_all, every-permuted, get_or-drop, get_or-map, get_or-take, get_or_default, get_or_past, in_direction, ints, is_exact, is_exact_value, is_lt, is_ranked_before, key_cmp, keys_left, keys_tied, le-leb, le-ltb, length-FitsTypes, length-append, length-drop, length-map, length-take, length_permutation, lt-leb, lt-ltb, map-append, map-map, mul-le-mul_right, mul-suc, nat_cmp, nat_cmp_total, on_total, order-from_sorted, order-joined, ordered-order, ordered-same, ordering_reverse, ordering_then, place_cmp, ranked_cmp, ranked_place, ranks_by, recursion_from_All, row_at, row_cmp, row_cmp_total, rows-ordered, rows_at, sorted-from_order, suc-mul, take-append-drop, take-append_seam, take_all, take_more, text_cmp, text_rank, then_total, tied_itself, type_at, value_at, value_behind, value_cmp, value_cmp_total}
+use Rattle.std.proofs.Common.{◌≡◌, ◌≢◌, ◌⊎◌, ℕ, zero, suc, ◌+◌, ◌-◌, ◌*◌, ◌^◌, ◌<◌, ◌≤◌, ◌==◌, ◌&&◌, ◌||◌, leb, min, not, Bool, true, false, cond, List, [], ◌∷◌, length, map, get_or, drop, take, ◌++◌, refl, sym, ap, ap₂, subst, ◌∙◌, arith, inl, inr, IsPermutation, IsSorted, append_assoc}
+use Rattle.sort_procs.proofs.Imports.{AgreeOnKey, All, All-append, All-cons, All-drop, All-map, All-permutation, All-take, AllByRecursion, AreBytes, AreRanks, ColumnType, Equal, FitsType, FitsTypes, FitsTypes-at, Greater, HasRanks, HasValueRank, Int, IsKeyRank, IsPermutation-append_left, IsPermutation-append_right, IsPermutation-trans, IsRank, IsSortedBy, IsSplit, IsStrictWeakOrder, IsTable, IsTotalOrder, Less, Null, Ordering, PutsFront, PutsMore, Ranked, Row, SortKey, Table, Text, UInt, Value, any_order, before_null, bool_cmp, bool_cmp_total, byte_weight, bytes_told, cases_lt, common_steps, count_up, descending_values, drop-append_seam, drop-drop, every-permuted, get_or-drop, get_or-map, get_or-take, get_or_default, get_or_past, in_direction, ints, is_exact, is_exact_value, is_lt, is_null, is_ranked_before, key_cmp, key_rank, keys_left, keys_tied, last_rank, le-leb, length-FitsTypes, length-append, length-drop, length-map, length-take, length_permutation, lt-leb, map-append, map-map, min-eq_left, min-eq_right, min-le_left, min-le_right, mul-le-mul_right, nat_cmp, nat_cmp_total, null_rank, nulls_tie, on_total, or_null, order-from_sorted, order-joined, ordered-order, ordered-same, ordering_reverse, ordering_then, place_cmp, ranked_cmp, ranked_place, ranks_by, recursion_from_All, row_at, row_cmp, row_cmp_total, rows-ordered, rows_at, sorted-from_order, take-append-drop, take-append_seam, take_all, take_more, text_cmp, text_rank, then_total, tied_itself, type_at, value_at, value_behind, value_cmp, value_cmp_total, value_rank}
+use Rattle.sort_procs.proofs.TextRanks.{nat-less, nat-same, rank-below, texts-less, texts-rest, texts-same, weight-some}
 use Rattle.chunk_data.specs.declared.typed_value.ColumnType.TheVariants as column
-
--- ---- texts
-
-weight-some : (n : ℕ) → 0 < byte_weight n
-unfolding byte_weight
-weight-some zero = omega arith
-weight-some (suc n) = let some = weight-some n in omega (arith, some)
-
-rank-below : (n : ℕ) (a : List ℕ) → AreBytes n a → text_rank n a < byte_weight n * 2
-unfolding text_rank byte_weight AreBytes
-rank-below n [] h = let some = weight-some n in omega (arith, some)
-rank-below zero (x ∷ a) h = omega arith
-rank-below (suc n) (x ∷ a) h =
-    let less = rank-below n a h.1 in
-    let few : suc x * byte_weight n ≤ 256 * byte_weight n =
-    mul-le-mul_right (byte_weight n) (omega (arith, h.0)) in
-    omega (arith, less, few)
-
-pub nat-less : (x y : ℕ) → x < y → nat_cmp x y ≡ Less
-nat-less x y lt = rw (lt-ltb x y lt) refl
-
-pub nat-same : (x : ℕ) → nat_cmp x x ≡ Equal
-nat-same x = tied_itself nat_cmp_total x
-
--- a lower digit makes a lower rank
-digit-less : (n x y : ℕ) (a b : List ℕ) → AreBytes n a → x < y
-    → suc x * byte_weight n * 2 + text_rank n a < suc y * byte_weight n * 2 + text_rank n b
-digit-less n x y a b h lt =
-    let less = rank-below n a h in
-    let most : suc (suc x) * byte_weight n ≤ suc y * byte_weight n =
-    mul-le-mul_right (byte_weight n) (omega (arith, lt)) in
-    omega (arith, less, most, suc-mul (suc x) (byte_weight n))
-
-texts-less : (n : ℕ) (a b : List ℕ) → AreBytes n a → AreBytes n b
-    → text_rank n a < text_rank n b → text_cmp a b ≡ Less
-unfolding text_rank AreBytes
-texts-less n [] (y ∷ b) f g lt = refl
-texts-less (suc n) (x ∷ a) (y ∷ b) f g lt =
-    let rest = texts-less n a b f.1 g.1 in
-    let digit = digit-less n y x b a g.1 in
-    grind (arith, nat-less, nat-same, rest, digit, cases_lt x y, cases_lt y x)
-texts-less n a b f g lt = grind arith
-
--- texts of one rank compare as what follows the bytes that it tells
-texts-rest : (n : ℕ) (a b : List ℕ) → AreBytes n a → AreBytes n b
-    → text_rank n a ≡ text_rank n b → text_cmp (drop n a) (drop n b) ≡ text_cmp a b
-unfolding text_rank AreBytes
-texts-rest (suc n) (x ∷ a) (y ∷ b) f g e = elim (cases_lt x y) [
-  | inl lt ↦ absurd (let less = digit-less n x y a b f.1 lt in omega (arith, less, e))
-  | inr le ↦ elim (cases_lt y x) [
-    | inl lt ↦ absurd (let less = digit-less n y x b a g.1 lt in omega (arith, less, e))
-    | inr ge ↦
-        let same : x ≡ y = omega (arith, le, ge) in
-        let rest : text_rank n a ≡ text_rank n b =
-        omega (
-          arith,
-          subst (λ z. suc x * byte_weight n * 2 + text_rank n a
-              ≡ suc z * byte_weight n * 2 + text_rank n b) (sym same) e,
-        ) in
-        subst (λ z. text_cmp (drop n a) (drop n b) ≡ text_cmp (x ∷ a) (z ∷ b)) same
-        (rw (nat-same x) (texts-rest n a b f.1 g.1 rest))
-  ]
-]
-texts-rest n a b f g e = grind (arith, weight-some, mul-suc)
-
--- and nothing follows where it tells that there are no more bytes
-none-behind : (n : ℕ) (a : List ℕ) → text_rank n a % 2 ≡ 0 → drop n a ≡ []
-unfolding text_rank
-none-behind zero [] even = refl
-none-behind zero (x ∷ a) even = absurd (omega (arith, even))
-none-behind (suc n) [] even = refl
-none-behind (suc n) (x ∷ a) even = none-behind n a
-    (sym (add-mul-mod_self_right (text_rank n a) (suc x * byte_weight n) 2)
-    ∙ ap (λ z. z % 2) (omega arith) ∙ even)
-
-texts-same : (n : ℕ) (a b : List ℕ) → AreBytes n a → AreBytes n b
-    → text_rank n a ≡ text_rank n b → text_rank n a % 2 ≡ 0 → text_cmp a b ≡ Equal
-texts-same n a b f g e even = sym (texts-rest n a b f g e)
-    ∙ ap₂ text_cmp (none-behind n a even) (none-behind n b (ap (λ r. r % 2) (sym e) ∙ even))
-
--- the bytes from place i on, of which the first is counted first
-rank-next : (n i : ℕ) (bytes : List ℕ)
-    → text_rank (suc n) (drop i bytes)
-    ≡ digit bytes i * byte_weight n * 2 + text_rank n (drop (suc i) bytes)
-unfolding text_rank
-rank-next n i bytes = elim (cases_lt i (length bytes)) [
-  | inl lt ↦ rw (drop-cons bytes i 0 lt, get_or-map suc bytes i 0 0 lt) refl
-  | inr le ↦
-      rw (
-        drop_all i bytes le,
-        drop_all (suc i) bytes (omega (arith, le)),
-        get_or_past (map suc bytes) i 0 (let l = length-map bytes suc in omega (arith, l, le)),
-      )
-      (omega arith)
-]
-
-rank-last : (i : ℕ) (bytes : List ℕ)
-    → text_rank 0 (drop i bytes) ≡ cond (nat_lt i (length bytes)) 1 0
-unfolding text_rank
-rank-last i bytes = elim (cases_lt i (length bytes)) [
-  | inl lt ↦ rw (drop-cons bytes i 0 lt, lt-ltb i (length bytes) lt) refl
-  | inr le ↦ rw (drop_all i bytes le, le-ltb i (length bytes) le) refl
-]
-
-no-bytes : (bytes : List ℕ) → AreBytes 0 bytes
-unfolding AreBytes
-no-bytes [] = tt
-no-bytes (x ∷ bytes) = tt
-
-bytes-next : (n i : ℕ) (bytes : List ℕ) → ((k : ℕ) → get_or bytes k 0 < 256)
-    → AreBytes n (drop (suc i) bytes) → AreBytes (suc n) (drop i bytes)
-unfolding AreBytes
-bytes-next n i bytes h k = elim (cases_lt i (length bytes)) [
-  | inl lt ↦ rw (drop-cons bytes i 0 lt) (h i, k)
-  | inr le ↦ rw (drop_all i bytes le) tt
-]
-
--- the first 7 bytes of a text
-pub seven_bytes : (bytes : List ℕ) → ((k : ℕ) → get_or bytes k 0 < 256)
-    → (((((digit bytes 0 * 257 + digit bytes 1) * 257 + digit bytes 2) * 16974593
-    + ((digit bytes 3 * 257 + digit bytes 4) * 257 + digit bytes 5)) * 257 + digit bytes 6) * 2
-    + cond (nat_lt 7 (length bytes)) 1 0 ≡ text_rank 7 bytes) × AreBytes 7 bytes
-unfolding byte_weight
-seven_bytes bytes h = (
-  omega (
-    arith,
-    rank-next 6 0 bytes,
-    rank-next 5 1 bytes,
-    rank-next 4 2 bytes,
-    rank-next 3 3 bytes,
-    rank-next 2 4 bytes,
-    rank-next 1 5 bytes,
-    rank-next 0 6 bytes,
-    rank-last 7 bytes,
-  ),
-  bytes-next 6 0 bytes h (bytes-next 5 1 bytes h (bytes-next 4 2 bytes h (bytes-next 3 3 bytes h
-      (bytes-next 2 4 bytes h (bytes-next 1 5 bytes h (bytes-next 0 6 bytes h
-      (no-bytes (drop 7 bytes)))))))),
-)
 
 -- ---- values and rows
 
@@ -166,39 +28,261 @@ first-fits types key row h lt =
     let long = length-FitsTypes types row h in
     FitsTypes-at types row key.column column.Text (Text []) h (omega (arith, long, lt))
 
+-- values that aren't NULL and have ranks
+record AreValid (t : ColumnType) (v w : Value) : Type 0 where
+  one : FitsType t v
+  other : FitsType t w
+  one_has : HasValueRank v
+  other_has : HasValueRank w
+  one_valid : is_null v ≡ false
+  other_valid : is_null w ≡ false
+
+valid-less : (t : ColumnType) (v w : Value) → AreValid t v w → value_rank v < value_rank w
+    → value_cmp v w ≡ Less
+valid-less t v w h lt = grind (arith, nat-less, texts-less, ints)
+
+valid-same : (t : ColumnType) (v w : Value) → AreValid t v w → value_rank v ≡ value_rank w
+    → is_exact_value t (value_rank v) ≡ true → value_cmp v w ≡ Equal
+valid-same t v w h e exact =
+    grind (arith, texts-same, ints, tied_itself, value_cmp_total)
+
+turned-over : (t : ColumnType) (v w : Value) → AreValid t v w → AreValid t w v
+turned-over t v w h = record {
+  one = h.other;
+  other = h.one;
+  one_has = h.other_has;
+  other_has = h.one_has;
+  one_valid = h.other_valid;
+  other_valid = h.one_valid;
+}
+
+text-below : (bytes : List ℕ) → AreBytes 7 bytes → text_rank 7 bytes < 2 ^ 63
+unfolding byte_weight
+text-below bytes h = let below = rank-below 7 bytes h in omega (arith, below)
+
+rank-within : (v : Value) → HasValueRank v → value_rank v < 2 ^ 64
+rank-within (Int z) h = h.1
+rank-within (UInt n) h = h
+rank-within (Text bytes) h = let below = text-below bytes h in omega (arith, below)
+rank-within Null h = omega arith
+
+-- ---- ranks of keys
+
+min-less : (a b m : ℕ) → min a m < min b m → a < b
+min-less a b m lt = elim (cases_lt a b) [
+  | inl less ↦ less
+  | inr le ↦ absurd (elim (cases_lt a m) [
+    | inl short ↦ let p = min-le_left b m in
+        let q : min a m ≡ a = min-eq_left (omega (arith, short)) in omega (arith, lt, p, q, le)
+    | inr long ↦ let p = min-le_right b m in
+        let q : min a m ≡ m = min-eq_right long in omega (arith, lt, p, q)
+  ])
+]
+
+min-same : (a b m : ℕ) → min a m ≡ min b m → min a m ≢ m → a ≡ b
+min-same a b m e ne = elim (cases_lt a m) [
+  | inl short ↦ elim (cases_lt b m) [
+    | inl few ↦ sym (min-eq_left (omega (arith, short))) ∙ e ∙ min-eq_left (omega (arith, few))
+    | inr many ↦ absurd (ne (e ∙ min-eq_right many))
+  ]
+  | inr long ↦ absurd (ne (min-eq_right long))
+]
+
+abbrev turned_rank : Bool → Value → ℕ
+turned_rank d v = in_direction d (value_rank v)
+
+-- the rank of a value that isn't NULL is before that of NULL
+valid-rank : (d : Bool) (v : Value) → is_null v ≡ false
+    → key_rank d v ≡ min (turned_rank d v) last_rank
+valid-rank d v e = rw e refl
+
+rank-of-null : (d : Bool) (v : Value) (r : ℕ) → IsKeyRank d v r → is_null v ≡ true → r ≡ null_rank
+rank-of-null d v r h e = h.is ∙ rw e refl
+
+valid-before : (d : Bool) (v : Value) (r : ℕ) → IsKeyRank d v r → is_null v ≡ false → r ≤ last_rank
+valid-before d v r h e =
+    let is = h.is ∙ valid-rank d v e in
+    let few = min-le_right (turned_rank d v) last_rank in omega (arith, is, few)
+
+keys-of-valid : (t : ColumnType) (d : Bool) (v w : Value) → AreValid t v w
+    → turned_rank d v < turned_rank d w → key_cmp d v w ≡ Less
+keys-of-valid t false v w h lt = valid-less t v w h lt
+keys-of-valid t true v w h lt =
+    let p = rank-within v h.one_has in
+    let q = rank-within w h.other_has in
+    descending_values v w h.one_valid h.other_valid
+    ∙ ap ordering_reverse (value_cmp_total.antisymm v w
+    ∙ ap ordering_reverse (valid-less t w v (turned-over t v w h) (omega (arith, p, q, lt))))
+
 keys-less : (t : ColumnType) (d : Bool) (v w : Value) (r s : ℕ) → FitsType t v → FitsType t w
     → IsKeyRank d v r → IsKeyRank d w s → r < s → key_cmp d v w ≡ Less
-keys-less t d v w r s f g h k lt = grind (arith, value_cmp_total, nat-less, texts-less, ints)
+keys-less t d v w r s f g h k lt = by (is_null v) (is_null w) refl refl
+  where
+    null-one : (w : Value) → is_null w ≡ true → w ≡ Null
+    null-one w i = grind arith
+
+    by : (a b : Bool) → is_null v ≡ a → is_null w ≡ b → key_cmp d v w ≡ Less
+    by true true e i = absurd (let p = rank-of-null d v r h e in
+        let q = rank-of-null d w s k i in omega (arith, p, q, lt))
+    by true false e i = absurd (let p = rank-of-null d v r h e in
+        let q = valid-before d w s k i in omega (arith, p, q, lt))
+    by false true e i = ap (key_cmp d v) (null-one w i) ∙ before_null d v e
+    by false false e i =
+        let p = h.is ∙ valid-rank d v e in
+        let q = k.is ∙ valid-rank d w i in
+        keys-of-valid t d v w (record {
+          one = f;
+          other = g;
+          one_has = h.has;
+          other_has = k.has;
+          one_valid = e;
+          other_valid = i;
+        }) (min-less (turned_rank d v) (turned_rank d w) last_rank (omega (arith, p, q, lt)))
 
 key-turned : (d : Bool) (v w : Value) → key_cmp d v w ≡ ordering_reverse (key_cmp d w v)
 key-turned d v w = grind (arith, value_cmp_total)
 
+-- one rank in a direction is that of one rank
+one-rank : (d : Bool) (v w : Value) → HasValueRank v → HasValueRank w
+    → turned_rank d v ≡ turned_rank d w → value_rank v ≡ value_rank w
+one-rank false v w h k e = e
+one-rank true v w h k e =
+    let p = rank-within v h in
+    let q = rank-within w k in
+    omega (arith, p, q, e)
+
+in_direction-twice : (d : Bool) (r : ℕ) → r < 2 ^ 64 → in_direction d (in_direction d r) ≡ r
+in_direction-twice false r lt = refl
+in_direction-twice true r lt = omega (arith, lt)
+
 keys-same : (t : ColumnType) (d : Bool) (v w : Value) (r : ℕ) → FitsType t v → FitsType t w
-    → IsKeyRank d v r → IsKeyRank d w r → is_exact_value t (in_direction d r) ≡ true
+    → IsKeyRank d v r → IsKeyRank d w r
+    → ((r == null_rank) || (not (r == last_rank) && is_exact_value t (in_direction d r))) ≡ true
     → key_cmp d v w ≡ Equal
-keys-same t d v w r f g h k e = grind (arith, texts-same, ints, tied_itself, value_cmp_total)
+keys-same t d v w r f g h k exact = by (is_null v) (is_null w) refl refl
+  where
+    null-one : (w : Value) → is_null w ≡ true → w ≡ Null
+    null-one w i = grind arith
+
+    tied : (d : Bool) → value_cmp v w ≡ Equal → is_null v ≡ false → is_null w ≡ false
+        → key_cmp d v w ≡ Equal
+    tied false same e i = same
+    tied true same e i = descending_values v w e i ∙ ap ordering_reverse same
+
+    -- before the last rank it is that of the value
+    turned : r ≢ last_rank → r ≡ min (turned_rank d v) last_rank → turned_rank d v ≡ r
+    turned ne p = elim (cases_lt (turned_rank d v) last_rank) [
+      | inl lt ↦ sym (p ∙ min-eq_left (omega (arith, lt)))
+      | inr le ↦ absurd (ne (p ∙ min-eq_right le))
+    ]
+
+    told : r ≤ last_rank → (r ≢ last_rank) × (is_exact_value t (in_direction d r) ≡ true)
+    told few = grind (arith, common_steps)
+
+    by : (a b : Bool) → is_null v ≡ a → is_null w ≡ b → key_cmp d v w ≡ Equal
+    by true true e i = ap₂ (key_cmp d) (null-one v e) (null-one w i) ∙ nulls_tie d
+    by true false e i = absurd (let p = rank-of-null d v r h e in
+        let q = valid-before d w r k i in omega (arith, p, q))
+    by false true e i = absurd (let p = rank-of-null d w r k i in
+        let q = valid-before d v r h e in omega (arith, p, q))
+    by false false e i =
+        let p = h.is ∙ valid-rank d v e in
+        let q = k.is ∙ valid-rank d w i in
+        let ends = told (valid-before d v r h e) in
+        let one = min-same (turned_rank d v) (turned_rank d w) last_rank (sym p ∙ q)
+        (λ z. ends.0 (p ∙ z)) in
+        let rank : in_direction d r ≡ value_rank v =
+        ap (in_direction d) (sym (turned ends.0 p))
+        ∙ in_direction-twice d (value_rank v) (rank-within v h.has) in
+        tied d (valid-same t v w (record {
+          one = f;
+          other = g;
+          one_has = h.has;
+          other_has = k.has;
+          one_valid = e;
+          other_valid = i;
+        }) (one-rank d v w h.has k.has one)
+        (subst (λ x. is_exact_value t x ≡ true) rank ends.1)) e i
 
 -- values of one rank compare as what follows the bytes that it tells
-values-rest : (v w : Value) (n r : ℕ) → IsValueRank (value_behind n v) r
-    → IsValueRank (value_behind n w) r
+values-rest : (v w : Value) (n : ℕ) → HasValueRank (value_behind n v)
+    → HasValueRank (value_behind n w)
+    → value_rank (value_behind n v) ≡ value_rank (value_behind n w)
     → value_cmp (value_behind (n + 7) v) (value_behind (n + 7) w)
     ≡ value_cmp (value_behind n v) (value_behind n w)
-values-rest (Text a) (Text b) n r h k = rw (sym (drop-drop 7 n a), sym (drop-drop 7 n b))
-    (texts-rest 7 (drop n a) (drop n b) h.1 k.1 (sym h.0 ∙ k.0))
-values-rest (Int a) (Int b) n r h k = refl
-values-rest (Int a) (UInt b) n r h k = refl
-values-rest (Int a) (Text b) n r h k = refl
-values-rest (UInt a) (Int b) n r h k = refl
-values-rest (UInt a) (UInt b) n r h k = refl
-values-rest (UInt a) (Text b) n r h k = refl
-values-rest (Text a) (Int b) n r h k = refl
-values-rest (Text a) (UInt b) n r h k = refl
+values-rest (Text a) (Text b) n h k e = rw (sym (drop-drop 7 n a), sym (drop-drop 7 n b))
+    (texts-rest 7 (drop n a) (drop n b) h k e)
+values-rest (Int a) w n h k e = grind arith
+values-rest (UInt a) w n h k e = grind arith
+values-rest Null w n h k e = grind arith
+values-rest (Text a) w n h k e = grind arith
+
+-- a text of one of the two lowest ranks has none of these bytes
+low-text : (n : ℕ) (bytes : List ℕ) → text_rank (suc n) bytes ≤ 1 → text_rank (suc n) bytes ≡ 0
+unfolding text_rank
+low-text n [] le = refl
+low-text n (x ∷ bytes) le =
+    let some = weight-some n in
+    let more : 1 * byte_weight n ≤ suc x * byte_weight n =
+    mul-le-mul_right (byte_weight n) (omega arith) in
+    absurd (omega (arith, some, more, le))
+
+-- texts of one rank of a key have one rank
+texts-one : (d : Bool) (a b : List ℕ) → AreBytes 7 a → AreBytes 7 b
+    → min (in_direction d (text_rank 7 a)) last_rank
+    ≡ min (in_direction d (text_rank 7 b)) last_rank → text_rank 7 a ≡ text_rank 7 b
+texts-one false a b h k e =
+    let p = text-below a h in
+    let q = text-below b k in
+    sym (min-eq_left (omega (arith, p))) ∙ e ∙ min-eq_left (omega (arith, q))
+texts-one true a b h k e = elim (cases_lt (text_rank 7 a) 2) [
+  | inl low ↦ elim (cases_lt (text_rank 7 b) 2) [
+    | inl less ↦ low-text 6 a (omega (arith, low)) ∙ sym (low-text 6 b (omega (arith, less)))
+    | inr high ↦ let z : min (in_direction true (text_rank 7 b)) last_rank
+        ≡ in_direction true (text_rank 7 b) = min-eq_left (omega (arith, high)) in
+        let y : min (in_direction true (text_rank 7 a)) last_rank ≡ last_rank =
+        min-eq_right (omega (arith, low)) in
+        let q = text-below b k in absurd (omega (arith, z, y, e, high, q))
+  ]
+  | inr high ↦ let z : min (in_direction true (text_rank 7 a)) last_rank
+      ≡ in_direction true (text_rank 7 a) = min-eq_left (omega (arith, high)) in
+      let p = text-below a h in
+      let q = text-below b k in elim (cases_lt (text_rank 7 b) 2) [
+        | inl less ↦ let y : min (in_direction true (text_rank 7 b)) last_rank ≡ last_rank =
+            min-eq_right (omega (arith, less)) in absurd (omega (arith, z, y, e, high, p))
+        | inr more ↦ let y : min (in_direction true (text_rank 7 b)) last_rank
+            ≡ in_direction true (text_rank 7 b) = min-eq_left (omega (arith, more)) in
+            omega (arith, z, y, e, p, q)
+      ]
+]
 
 keys-rest : (d : Bool) (v w : Value) (n r : ℕ) → IsKeyRank d (value_behind n v) r
     → IsKeyRank d (value_behind n w) r
     → key_cmp d (value_behind (n + 7) v) (value_behind (n + 7) w)
     ≡ key_cmp d (value_behind n v) (value_behind n w)
-keys-rest d v w n r h k = grind (arith, values-rest)
+keys-rest d (Text a) (Text b) n r h k =
+    let same = values-rest (Text a) (Text b) n h.has k.has
+    (texts-one d (drop n a) (drop n b) h.has k.has (sym h.is ∙ k.is)) in
+    by d same
+  where
+    by : (d : Bool) → text_cmp (drop (n + 7) a) (drop (n + 7) b) ≡ text_cmp (drop n a) (drop n b)
+        → key_cmp d (Text (drop (n + 7) a)) (Text (drop (n + 7) b))
+        ≡ key_cmp d (Text (drop n a)) (Text (drop n b))
+    by false e = e
+    by true e = ap ordering_reverse e
+keys-rest d v w n r h k = grind arith
+
+-- ---- what the code makes
+
+pub rank_of_valid : (descending : Bool) (told : ℕ) (v w : Value) (valid : Bool) (r s : ℕ)
+    → w ≡ or_null valid v → valid ≡ true → is_null v ≡ false → r ≡ value_rank (value_behind told v)
+    → HasValueRank (value_behind told v) → s ≡ min (in_direction descending r) last_rank
+    → IsKeyRank descending (value_behind told w) s
+rank_of_valid descending told v w valid r s is true_is plain e has f = grind (arith, common_steps)
+
+pub rank_of_null : (descending : Bool) (told : ℕ) (v w : Value) (valid : Bool)
+    → w ≡ or_null valid v → valid ≡ false → IsKeyRank descending (value_behind told w) null_rank
+rank_of_null descending told v w valid is false_is = grind (arith, common_steps)
 
 -- so many bytes of the text of the first key are the same in both rows, so that they compare by
 -- what follows these
@@ -223,6 +307,7 @@ behind-fits types key told row h lt =
     by (Int z) f = f
     by (UInt n) f = f
     by (Text bytes) f = f
+    by Null f = f
 
 -- rows of unequal ranks compare as these do
 rows-differ : (types : List ColumnType) (keys : List SortKey) (told : ℕ) (a b : Row) (r s : ℕ)
@@ -274,7 +359,12 @@ ranks-tie types (key ∷ keys) told a b r f t h k = by (is_exact types (key ∷ 
           (behind-fits types key told a f.one here) (behind-fits types key told b f.other here)
           h k e));
     }
-    by false e = grind (arith, keys-rest)
+    by false e = record {
+      fits = f;
+      alike = keys-rest key.descending (value_at a key.column) (value_at b key.column) told r h k
+          ∙ t;
+      same = refl;
+    }
 
 -- a rank tells what the keys do, where for the same rank the keys that are left do
 rank-tells : (types : List ColumnType) (keys : List SortKey) (told : ℕ) (a b : Row) (r s : ℕ)

@@ -1,10 +1,10 @@
 -- Numbers for each row that go before the keys, so that most rows are compared by them alone.
-use Rattle.chunk_data.specs.Names.{Row, Table, is_text, row_at, row_cmp, type_at, value_at}
+use Rattle.chunk_data.specs.Names.{Row, Table, is_null, is_text, row_at, row_cmp, type_at, value_at}
 use Rattle.chunk_data.specs.declared.typed_value.ColumnType.{ColumnType}
-use Rattle.query_model.specs.Prelude.{All, Int, Ordering, SortKey, Text, UInt, Value}
+use Rattle.query_model.specs.Prelude.{All, Int, Null, Ordering, SortKey, Text, UInt, Value, unsigned_abs}
 use Rattle.sort_procs.specs.declared.ranks.Ranked.{Ranked}
 use Rattle.std.specs.Ordering.{bool_cmp, is_lt, nat_cmp, ordering_then}
-use Rattle.std.specs.Prelude.{Bool, IsPermutation, IsSortedBy, List, [], cond, drop, false, leb, length, map, not, pos, slice_index_or, suc, take, true, zero, ℕ, ⊤, ◌%◌, ◌*◌, ◌+ℤ◌, ◌+◌, ◌-◌, ◌<◌, ◌==◌, ◌^◌, ◌||◌, ◌∷◌, ◌≡◌}
+use Rattle.std.specs.Prelude.{Bool, IsPermutation, IsSortedBy, List, [], cond, drop, false, leb, length, map, min, not, pos, slice_index_or, suc, take, true, zero, ℕ, ⊤, ◌%◌, ◌&&◌, ◌*◌, ◌+ℤ◌, ◌+◌, ◌-◌, ◌<◌, ◌==◌, ◌^◌, ◌||◌, ◌∷◌, ◌≡◌}
 
 -- what a digit before n others counts
 unfoldable pub byte_weight : ℕ → ℕ
@@ -28,26 +28,49 @@ AreBytes n [] = ⊤
 AreBytes zero (byte ∷ bytes) = ⊤
 AreBytes (suc n) (byte ∷ bytes) = (byte < 256) × AreBytes n bytes
 
--- a number that is lower only where the value comes before
-abbrev pub IsValueRank : Value → ℕ → Type 0
-IsValueRank (Int z) r = pos r ≡ z +ℤ pos (2 ^ 63)
-IsValueRank (UInt n) r = r ≡ n
-IsValueRank (Text bytes) r = (r ≡ text_rank 7 bytes) × AreBytes 7 bytes
+-- a number that is lower only where a value that isn't NULL comes before
+abbrev pub value_rank : Value → ℕ
+value_rank (Int z) = unsigned_abs (z +ℤ pos (2 ^ 63))
+value_rank (UInt n) = n
+value_rank (Text bytes) = text_rank 7 bytes
+value_rank Null = 0
+
+-- what a column keeps, which has a rank of 64 bits
+abbrev pub HasValueRank : Value → Type 0
+HasValueRank (Int z) = (pos (value_rank (Int z)) ≡ z +ℤ pos (2 ^ 63))
+    × (value_rank (Int z) < 2 ^ 64)
+HasValueRank (UInt n) = n < 2 ^ 64
+HasValueRank (Text bytes) = AreBytes 7 bytes
+HasValueRank Null = ⊤
 
 -- a rank in the order of a key, which may turn that of the values round
 abbrev pub in_direction : (descending : Bool) → ℕ → ℕ
 in_direction descending r = cond descending (2 ^ 64 - 1 - r) r
 
--- the same of a key
-pub record IsKeyRank (descending : Bool) (v : Value) (r : ℕ) : Type 0 where
-  pub is : IsValueRank v (in_direction descending r)
-  pub within : r < 2 ^ 64
+-- NULL alone has this rank, behind all others
+abbrev pub null_rank : ℕ
+null_rank = 2 ^ 64 - 1
 
--- what follows the first n bytes of a text; a number has none
+-- the last rank of other values, which values of the two last ranks have
+abbrev pub last_rank : ℕ
+last_rank = 2 ^ 64 - 2
+
+-- the rank of a value as a key has it
+abbrev pub key_rank : (descending : Bool) → Value → ℕ
+key_rank descending v =
+    cond (is_null v) null_rank (min (in_direction descending (value_rank v)) last_rank)
+
+-- a rank in the order of a key
+pub record IsKeyRank (descending : Bool) (v : Value) (r : ℕ) : Type 0 where
+  pub is : r ≡ key_rank descending v
+  pub has : HasValueRank v
+
+-- what follows the first n bytes of a text; a number and NULL have none
 abbrev pub value_behind : ℕ → Value → Value
 value_behind n (Int z) = Int z
 value_behind n (UInt m) = UInt m
 value_behind n (Text bytes) = Text (drop n bytes)
+value_behind n Null = Null
 
 -- a row's rank is that of its first key, of whose text so many bytes are told
 abbrev pub IsRank : List SortKey → (told : ℕ) → Row → ℕ → Type 0
@@ -62,8 +85,8 @@ is_exact_value t r = not (is_text t) || (r % 2 == 0)
 -- whether rows of the same rank r don't differ at the first key
 abbrev pub is_exact : List ColumnType → List SortKey → ℕ → Bool
 is_exact types [] r = false
-is_exact types (key ∷ keys) r =
-    is_exact_value (type_at types key.column) (in_direction key.descending r)
+is_exact types (key ∷ keys) r = (r == null_rank) || (not (r == last_rank)
+    && is_exact_value (type_at types key.column) (in_direction key.descending r))
 
 -- the keys at which rows of the same rank r may differ
 abbrev pub keys_left : List ColumnType → List SortKey → ℕ → List SortKey

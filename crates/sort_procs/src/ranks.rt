@@ -1,18 +1,22 @@
 ghost use Rattle.std.specs.Prelude.{◌≡◌, ◌<◌, ◌≤◌, ◌+◌, ◌^◌, ◌+ℤ◌, cond, drop, pos, length, map, slice_index_or, take, IfOk, IsPermutation, IsSortedBy, nat_lt};
 ghost use Rattle.std.specs.List.{All};
-ghost use Rattle.chunk_data.specs.Names.{values, AgreeOnKey, IsTable, value_at, row_at};
-ghost use Rattle.chunk_data.specs.declared.typed_value.Value.TheVariants.{Text};
+ghost use Rattle.chunk_data.specs.Names.{stored_values, values, AgreeOnKey, IsTable, value_at, row_at};
 ghost use Rattle.query_model.specs.Sources.{count_up};
-ghost use Rattle.sort_procs.specs.Ranks.{bytes_told, digit, HasRanks, is_exact, IsKeyRank, IsRank, IsValueRank, keys_left, keys_tied, in_direction, is_ranked_before, place_cmp, ranked_place, ranked_cmp, rows_at, value_behind, IsSplit, PutsFront, PutsMore};
+ghost use Rattle.sort_procs.specs.Ranks.{bytes_told, digit, AreBytes, HasRanks, HasValueRank, is_exact, IsKeyRank, IsRank, keys_left, keys_tied, in_direction, is_ranked_before, place_cmp, ranked_place, ranked_cmp, rows_at, text_rank as text_number, value_behind, value_rank, IsSplit, PutsFront, PutsMore};
 
 use chunk_data::{Chunk, Column, Memory, PlainSlice, SortKey};
 use std::alloc::Global;
 use std::cmp::Ordering;
 
+const NULL_RANK: u64 = u64::MAX;
+
+/// The last rank of values, which those have too that would have NULL's.
+const LAST_RANK: u64 = u64::MAX - 1;
+
 /// A row by its place, with two ranks that go before the keys. The first is that of the first key,
 /// and the second goes on where it ends: at the next key, or within a text at the bytes behind
 /// those that it tells. So each is lower only where the row comes first, the second among rows that
-/// have the same first.
+/// have the same first. NULL has a rank of its own behind those of all values.
 #[derive(Clone, Copy, PartialEq, Eq)]
 pub(crate) struct Ranked {
     pub(crate) first: u64,
@@ -217,16 +221,19 @@ fn bytes_told(rows: &Chunk, keys: &[SortKey], told: usize, rank: u64) -> usize
     }
 }
 
-// Whether rows whose first keys have this rank don't differ there: numbers never do, and texts
-// where they are as short as the rank tells.
+// Whether rows whose first keys have this rank don't differ there. NULL never does, and before the
+// last rank of values, which two of them may have, neither do numbers, and texts where they are as
+// short as the rank tells.
 fn is_exact(rows: &Chunk, keys: &[SortKey], rank: u64) -> bool
     requires { All (AgreeOnKey rows.now.types rows.now.types) keys.now }
     ensures { result ≡ is_exact rows.now.types keys.now rank }
 {
     match keys.first() {
         Some(key) => {
-            !rows.column(key.column as usize).kind().is_text()
-                || in_direction(key.descending, rank) % 2 == 0
+            let kind = rows.column(key.column as usize).kind();
+            rank == NULL_RANK
+                || (rank != LAST_RANK
+                    && (!kind.is_text() || in_direction(key.descending, rank) % 2 == 0))
         }
         None => false,
     }
@@ -299,12 +306,17 @@ fn compare_places(left: &Chunk, right: &Chunk, keys: &[SortKey], i: usize, j: us
     }
 }
 
-// The rank of a value behind the bytes that are told, as a key has it.
+// The rank of a value behind the bytes that are told, as a key has it: that of NULL comes last in
+// both directions.
+#[tactic(auto, using(crate::proofs::RankLaws::rank_of_valid, crate::proofs::RankLaws::rank_of_null, crate::proofs::Imports::no_null))]
 fn rank_at(column: &Column, descending: bool, told: usize, i: usize) -> u64
     requires { i < length (values column.now) }
     ensures { IsKeyRank descending (value_behind told (value_at (values column.now) i)) result }
 {
-    in_direction(descending, value_rank(column, told, i))
+    if !column.is_valid(i) {
+        return NULL_RANK;
+    }
+    in_direction(descending, stored_rank(column, told, i)).min(LAST_RANK)
 }
 
 // The rank in the order of a key, which may turn that of the values round.
@@ -314,11 +326,12 @@ fn in_direction(descending: bool, rank: u64) -> u64
     if descending { u64::MAX - rank } else { rank }
 }
 
-// A number that is lower only where the value comes first in its column, among the texts that begin
-// with the bytes that are told.
-fn value_rank(column: &Column, told: usize, i: usize) -> u64
-    requires { i < length (values column.now) }
-    ensures { IsValueRank (value_behind told (value_at (values column.now) i)) result }
+// A number that is lower only where what is kept comes first in its column, among the texts that
+// begin with the bytes that are told. At a NULL some value is kept.
+fn stored_rank(column: &Column, told: usize, i: usize) -> u64
+    requires { i < length (stored_values column.now) }
+    ensures rank { result ≡ value_rank (value_behind told (value_at (stored_values column.now) i)) }
+    ensures has { HasValueRank (value_behind told (value_at (stored_values column.now) i)) }
 {
     match column.plain() {
         PlainSlice::Ints(numbers) => int_rank(numbers[i]),
@@ -348,9 +361,9 @@ fn int_rank(number: i64) -> u64
 
 // The first 7 bytes as a number, of which the first counts most and none is counted lower than a
 // byte 0, and last whether there are more.
-#[tactic(auto, using(crate::proofs::RankLaws::seven_bytes))]
+#[tactic(auto, using(crate::proofs::TextRanks::seven_bytes))]
 fn text_rank(bytes: &[u8]) -> u64
-    ensures { IsValueRank (Text bytes.now) result }
+    ensures { (result ≡ text_number 7 bytes.now) × AreBytes 7 bytes.now }
 {
     let high = (digit_at(bytes, 0) * 257 + digit_at(bytes, 1)) * 257 + digit_at(bytes, 2);
     let low = (digit_at(bytes, 3) * 257 + digit_at(bytes, 4)) * 257 + digit_at(bytes, 5);
