@@ -4,10 +4,10 @@ pub use Rattle.key_codes.proofs.KeyLaws.{codes-keys, places-keys}
 pub use Rattle.proc_api.proofs.Orders.{every-append}
 pub use Rattle.proc_api.specs.Names.{FitsGroups, Reading, idle_own}
 pub use Rattle.proc_api.specs.SpecContracts.{NotesEnd as EndIsNoted}
-pub use Rattle.std.proofs.Common.{Bool, IfOk, IsPermutation, List, None, SFits, Some, [], ap, append_assoc, ap₂, arith, cond, drop, drop-drop, false, filter, fold, get_or, inl, inr, length, map, max, min, not, of_z, pos, refl, rules, set, subst, suc, sym, take, to_z, true, w64, zero, ℕ, ℤ, ◌%◌, ◌++◌, ◌+ℤ◌, ◌+◌, ◌-◌, ◌<◌, ◌^◌, ◌||◌, ◌∙◌, ◌∷◌, ◌≡◌, ◌≢◌, ◌≤◌, ◌⊎◌}
+pub use Rattle.std.proofs.Common.{Bool, IfOk, IfSome, IsPermutation, List, None, Option, SFits, Some, [], ap, append_assoc, ap₂, arith, cond, drop, drop-drop, false, filter, fold, get_or, inl, inr, length, map, max, min, not, of_z, pos, refl, rules, set, subst, suc, sym, take, to_z, true, w64, zero, ℕ, ℤ, ◌%◌, ◌++◌, ◌+ℤ◌, ◌+◌, ◌-◌, ◌<◌, ◌^◌, ◌||◌, ◌∙◌, ◌∷◌, ◌≡◌, ◌≢◌, ◌≤◌, ◌⊎◌}
 pub use Rattle.std.proofs.lemmas.Grind.{common_steps}
 pub use denote.Enum.Bare.{same_true, true_same}
-pub use Rattle.aggregate_proc.specs.Cells.{FitsColumn, can_fold}
+pub use Rattle.aggregate_proc.specs.Cells.{FitsColumn, can_fold, int_value, text_value, uint_value}
 pub use Rattle.aggregate_proc.specs.Folds.{FoldColumn, earlier, folded, next_folded, put_all, put_folded, with_rows}
 pub use Rattle.aggregate_proc.specs.GroupKinds.{AreSound, GroupingView, IsGroupPhase, IsGroupState, IsGroupTableFor, IsNextOfGroups, NotesGroupsEnd, aggregate_spec, call_foldings, call_types, calls_for, empty_column, fold_for, fold_of, foldings_for, gathering_own, given_for, giving_own, grouping_own, groups_for, open_for, phase_own, state_in, types_for, whole_for, worked_rows}
 pub use Rattle.aggregate_proc.specs.Prelude.{AggOp, AreGrouped, GroupSpec, Offer, SeenKeys, StateCall, rows_of}
@@ -43,6 +43,7 @@ pub use Rattle.std.specs.Cmp.{nat_cmp_is}
 pub use Rattle.std.specs.Cmp.Lexicographic.{nat_list_eq_equiv, same_text}
 pub use Rattle.std.specs.Int.{cast_signed, cast_unsigned, from_le_bytes, int_max, int_min, int_wrap, to_le_bytes}
 pub use Rattle.std.specs.List.{All, AllByRecursion, list_all, list_any, position_or_len}
+pub use Rattle.std.specs.Option.{option_map}
 pub use Rattle.std.specs.Ordering.{int_cmp, nat_cmp}
 unfoldable pub use Rattle.proc_api.specs.Histories.{all_rows}
-unfoldable pub use Rattle.query_model.specs.Names.{chosen, combined, count_up, distinct, value_of, wrapped}
+unfoldable pub use Rattle.query_model.specs.Names.{chosen, combined, count_up, distinct, value_of, wrapped, wrapped_sum}

@@ -1,6 +1,6 @@
 -- What is true of each element of a list, of its filtered and its distinct elements; the rows of
 -- columns.
-use Rattle.aggregate_proc.proofs.Imports.{◌≡◌, ◌≤◌, ℕ, zero, suc, take, get_or, Bool, List, [], ◌∷◌, length, map, filter, refl, ap₂, arith, AllByRecursion, count_up, distinct, map-append, take-suc}
+use Rattle.aggregate_proc.proofs.Imports.{◌≡◌, ◌≤◌, ◌<◌, ◌+◌, ℕ, zero, suc, take, get_or, Bool, List, [], ◌∷◌, length, map, filter, refl, ap₂, arith, AllByRecursion, count_up, distinct, map-append, take-suc}
 
 pub all-filter : {A : Type 0} (P : A → Type 0) (p : A → Bool) (xs : List A) → AllByRecursion P xs
     → AllByRecursion P (filter p xs)
@@ -30,3 +30,15 @@ unfolding count_up
 map_of_places_is_take zero l d le = refl
 map_of_places_is_take (suc n) l d le =
     grind (arith, map-append, take-suc, map_of_places_is_take n l d (omega (arith, le)))
+
+-- what holds of the elements below a place, and of that at it, holds of those below the next
+pub below-next : {A : Type 0} (P : A → Type 0) (l : List A) (i : ℕ) (x : A) → i < length l
+    → P (get_or l i x) → ((k : ℕ) (d : A) → k < i → P (get_or l k d))
+    → (k : ℕ) (d : A) → k < i + 1 → P (get_or l k d)
+below-next P [] i x lt p h k d b = absurd (omega (arith, lt))
+below-next P (y ∷ l) zero x lt p h zero d b = p
+below-next P (y ∷ l) zero x lt p h (suc k) d b = absurd (omega (arith, b))
+below-next P (y ∷ l) (suc i) x lt p h zero d b = h zero d (omega arith)
+below-next P (y ∷ l) (suc i) x lt p h (suc k) d b =
+    below-next P l i x (omega (arith, lt)) p (λ k d lt. h (suc k) d (omega (arith, lt))) k d
+    (omega (arith, b))

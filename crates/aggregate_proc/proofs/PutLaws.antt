@@ -33,6 +33,12 @@ module _ {A : Type 0} (f : Fold) (h : A → Value) (xs : List A) (ps : List ℕ)
       → left_to_put f (map h new) ps vs (i + 1) ≡ left_to_put f (map h xs) ps vs i
   step-set new x y e within here is = grind (arith, put-set, one-step)
 
+  -- it stays as it is
+  pub step-keep : (new : List A) (y : A) → new ≡ xs → get_or ps i 0 < length xs
+      → y ≡ get_or xs (get_or ps i 0) y → h y ≡ next_folded f (h y) v
+      → left_to_put f (map h new) ps vs (i + 1) ≡ left_to_put f (map h xs) ps vs i
+  step-keep new y e within here is = grind (arith, step-set, set-get_or xs (get_or ps i 0) y)
+
   pub step-push : (new : List A) (x : A) → new ≡ xs ++ x ∷ [] → length xs ≤ get_or ps i 0
       → h x ≡ folded f (v ∷ [])
       → left_to_put f (map h new) ps vs (i + 1) ≡ left_to_put f (map h xs) ps vs i
@@ -54,12 +60,11 @@ module _ {A : Type 0} (f : Fold) (h : A → Value) (xs : List A) (ps : List ℕ)
       ≡ left_to_put f (map h xs) ps (map h ns) i
   set-next = step-set f h xs ps (map h ns) i (h (get_or ns i d)) lt less at
 
-  -- it stays as it is
   pub keep-next : (new : List A) (y : A) → new ≡ xs → get_or ps i 0 < length xs
       → y ≡ get_or xs (get_or ps i 0) y → h y ≡ next_folded f (h y) (h (get_or ns i d))
       → left_to_put f (map h new) ps (map h ns) (i + 1)
       ≡ left_to_put f (map h xs) ps (map h ns) i
-  keep-next new y e within here is = grind (arith, set-next, set-get_or xs (get_or ps i 0) y)
+  keep-next = step-keep f h xs ps (map h ns) i (h (get_or ns i d)) lt less at
 
   pub push-next : (new : List A) (x : A) → new ≡ xs ++ x ∷ [] → length xs ≤ get_or ps i 0
       → h x ≡ folded f (h (get_or ns i d) ∷ [])

@@ -1,6 +1,5 @@
 -- What the processors that group are loaded with and keep: a partial aggregate, and a merge.
 use Rattle.std.specs.Prelude.{◌≡◌, ℕ, suc, ◌<◌, ◌≤◌, ◌==◌, ◌&&◌, ◌||◌, cond, Bool, true, false, List, [], ◌∷◌, ◌++◌, drop, length, map}
-use Rattle.chunk_data.specs.Values.{plain_type}
 use Rattle.aggregate_proc.specs.Prelude.{AggOp, All, Call, ColumnType, GroupSpec, KernelState, Kind, Lists, Offer, OwnState, Row, Spec, StateCall, SumsNoTexts, Table, all_rows, call_of, calls_from, chunk_rows, combine_of, default_states, groups_or_default, idle_own, is_count, kernel_of, merged_rows, merged_states, partial_rows, partial_types, spec_group_types, state_calls}
 use Rattle.query_model.specs.declared.query.AggOp.TheVariants as agg
 use Rattle.query_model.specs.declared.processor_spec.Kind.TheVariants as kind
@@ -83,7 +82,7 @@ open_for merges i = merges || (i == 0)
 -- `count` is a UInt64, and no text is summed
 abbrev pub AreSound : List StateCall → Type 0
 AreSound calls =
-    All (λ (call : StateCall). can_fold (fold_of call.op) (plain_type call.kind) ≡ true) calls
+    All (λ (call : StateCall). can_fold (fold_of call.op) call.kind ≡ true) calls
 
 abbrev pub empty_column : Folding → FoldColumn
 empty_column f = record { op = f.op; input = f.input; kind = f.kind; values = [] }

@@ -1,13 +1,16 @@
 ghost use Rattle.std.specs.Prelude.{◌≡◌, ◌≢◌, true, IsTrue, if◌then◌else◌, List, [], length, map, OnOk, IfOk};
 ghost use Rattle.chunk_data.specs.Columns.{column_type, values};
-ghost use Rattle.chunk_data.specs.Values.{plain_type};
 ghost use Rattle.chunk_data.specs.declared.typed_value.Value.{Value};
 ghost use Rattle.chunk_data.specs.declared.typed_value.Value.TheVariants as value;
 ghost use Rattle.aggregate_proc.specs.Cells.{cell_type, cell_values, can_fold as may_fold, FitsColumn};
 ghost use Rattle.aggregate_proc.specs.Folds.{next_folded, put_all, with_rows};
 ghost use Rattle.aggregate_proc.specs.declared.fold.Fold.TheVariants as fold;
 
-use chunk_data::{Bytes, Chunk, Column, ColumnType, Memory, PlainType, Texts};
+use crate::nullable_fold::{
+    fold_nullable_ints, fold_nullable_texts, fold_nullable_uints, nullable_int_column,
+    nullable_text_column, nullable_uint_column,
+};
+use chunk_data::{Bytes, Chunk, Column, ColumnType, Memory, Texts};
 use std::alloc::Global;
 use std::marker::Model;
 
@@ -24,23 +27,30 @@ pub(crate) enum Fold {
     Greatest,
 }
 
-/// The values of a column of a group table. Texts lie apart, since each may be replaced.
+/// The values of a column of a group table, where None is NULL. Texts lie apart, since each may be
+/// replaced.
 #[derive(Drop)]
 pub(crate) enum FoldValues {
     Ints(Vec<i64>),
     UInts(Vec<u64>),
     Texts(Vec<Bytes>),
+    NullableInts(Vec<Option<i64>>),
+    NullableUInts(Vec<Option<u64>>),
+    NullableTexts(Vec<Option<Bytes>>),
 }
 
 impl FoldValues {
-    fn new(alloc: Global, kind: PlainType) -> FoldValues
+    fn new(alloc: Global, kind: ColumnType) -> FoldValues
         ensures kind { cell_type result ≡ kind }
         ensures empty { cell_values result ≡ [] }
     {
         match kind {
-            PlainType::Int64 => FoldValues::Ints(Vec::new(alloc)),
-            PlainType::UInt64 => FoldValues::UInts(Vec::new(alloc)),
-            PlainType::Text => FoldValues::Texts(Vec::new(alloc)),
+            ColumnType::Int64 => FoldValues::Ints(Vec::new(alloc)),
+            ColumnType::UInt64 => FoldValues::UInts(Vec::new(alloc)),
+            ColumnType::Text => FoldValues::Texts(Vec::new(alloc)),
+            ColumnType::NullInt64 => FoldValues::NullableInts(Vec::new(alloc)),
+            ColumnType::NullUInt64 => FoldValues::NullableUInts(Vec::new(alloc)),
+            ColumnType::NullText => FoldValues::NullableTexts(Vec::new(alloc)),
         }
     }
 }
@@ -53,8 +63,8 @@ pub(crate) struct FoldColumn {
     input: usize,
     kind: ColumnType,
     cells: FoldValues,
-    ghost typed: { cell_type cells ≡ plain_type kind },
-    ghost sound: { may_fold op (plain_type kind) ≡ true },
+    ghost typed: { cell_type cells ≡ kind },
+    ghost sound: { may_fold op kind ≡ true },
 }
 
 impl Model for FoldColumn {
@@ -67,8 +77,8 @@ impl Model for FoldColumn {
         { op = c.op; input = c.input; kind = c.kind; values = cell_values c.cells } };
 }
 
-fn next_int(op: Fold, state: i64, number: i64) -> i64
-    requires { may_fold op PlainType.Int64 ≡ true }
+pub(crate) fn next_int(op: Fold, state: i64, number: i64) -> i64
+    requires { may_fold op ColumnType.Int64 ≡ true }
     ensures { value.Int result ≡ next_folded op (value.Int state) (value.Int number) }
 {
     match op {
@@ -79,7 +89,7 @@ fn next_int(op: Fold, state: i64, number: i64) -> i64
     }
 }
 
-fn next_uint(op: Fold, state: u64, number: u64) -> u64
+pub(crate) fn next_uint(op: Fold, state: u64, number: u64) -> u64
     requires { op ≢ fold.Count }
     ensures { value.UInt result ≡ next_folded op (value.UInt state) (value.UInt number) }
 {
@@ -92,8 +102,8 @@ fn next_uint(op: Fold, state: u64, number: u64) -> u64
 }
 
 /// Whether the text takes the state's place.
-fn replaces(op: Fold, state: &[u8], text: &[u8]) -> bool
-    requires { may_fold op PlainType.Text ≡ true }
+pub(crate) fn replaces(op: Fold, state: &[u8], text: &[u8]) -> bool
+    requires { may_fold op ColumnType.Text ≡ true }
     ensures { next_folded op (value.Text state.now) (value.Text text.now)
         ≡ (if result then value.Text text.now else value.Text state.now) }
 {
@@ -110,7 +120,7 @@ fn fold_ints(
     numbers: &[i64],
     places: &[usize],
 ) -> Result<(), Memory>
-    requires op { may_fold op PlainType.Int64 ≡ true }
+    requires op { may_fold op ColumnType.Int64 ≡ true }
     requires long { length numbers.now ≡ length places.now }
     ensures { OnOk result
         (map value.Int states.new.items
@@ -157,7 +167,7 @@ fn fold_texts(
     texts: &Texts,
     places: &[usize],
 ) -> Result<(), Memory>
-    requires op { may_fold op PlainType.Text ≡ true }
+    requires op { may_fold op ColumnType.Text ≡ true }
     requires long { length texts.now ≡ length places.now }
     ensures { OnOk result
         (map value.Text states.new.items
@@ -195,12 +205,12 @@ fn fold_counts(states: &mut Vec<u64>, places: &[usize]) -> Result<(), Memory>
 }
 
 /// Whether a column of values of the type can fold so.
-pub(crate) fn can_fold(op: Fold, kind: PlainType) -> bool
+pub(crate) fn can_fold(op: Fold, kind: ColumnType) -> bool
     ensures { result ≡ may_fold op kind }
 {
     match op {
-        Fold::Count | Fold::AddCounts => matches!(kind, PlainType::UInt64),
-        Fold::Add => !matches!(kind, PlainType::Text),
+        Fold::Count | Fold::AddCounts => matches!(kind, ColumnType::UInt64),
+        Fold::Add => !kind.is_text(),
         Fold::First | Fold::Least | Fold::Greatest => true,
     }
 }
@@ -215,14 +225,14 @@ impl FoldColumn {
 
     /// A column without groups.
     pub(crate) fn new(alloc: Global, op: Fold, input: usize, kind: ColumnType) -> FoldColumn
-        requires { may_fold op (plain_type kind) ≡ true }
+        requires { may_fold op kind ≡ true }
         ensures { result ≡ record { op = op; input = input; kind = kind; values = [] } }
     {
         FoldColumn {
             op,
             input,
             kind,
-            cells: FoldValues::new(alloc, kind.plain()),
+            cells: FoldValues::new(alloc, kind),
         }
     }
 
@@ -237,28 +247,28 @@ impl FoldColumn {
         requires long { length places.now ≡ length chunk.now.rows }
         ensures { OnOk result (self.new ≡ with_rows places.now chunk.now.rows self.old) }
     {
-        match (self.op, &mut self.cells) {
+        let op = self.op;
+        match (op, &mut self.cells) {
             (Fold::Count, FoldValues::UInts(states)) => fold_counts(states, places),
             (Fold::Count, _) => unreachable!(),
-            (op, FoldValues::Ints(states)) => fold_ints(
-                op,
-                states,
-                chunk.column(self.input).ints(),
-                places,
-            ),
-            (op, FoldValues::UInts(states)) => fold_uints(
-                op,
-                states,
-                chunk.column(self.input).uints(),
-                places,
-            ),
-            (op, FoldValues::Texts(states)) => fold_texts(
-                op,
-                alloc,
-                states,
-                chunk.column(self.input).texts(),
-                places,
-            ),
+            (_, FoldValues::Ints(states)) => {
+                fold_ints(op, states, chunk.column(self.input).ints(), places)
+            }
+            (_, FoldValues::UInts(states)) => {
+                fold_uints(op, states, chunk.column(self.input).uints(), places)
+            }
+            (_, FoldValues::Texts(states)) => {
+                fold_texts(op, alloc, states, chunk.column(self.input).texts(), places)
+            }
+            (_, FoldValues::NullableInts(states)) => {
+                fold_nullable_ints(op, states, chunk.column(self.input), places)
+            }
+            (_, FoldValues::NullableUInts(states)) => {
+                fold_nullable_uints(op, states, chunk.column(self.input), places)
+            }
+            (_, FoldValues::NullableTexts(states)) => {
+                fold_nullable_texts(op, alloc, states, chunk.column(self.input), places)
+            }
         }
     }
 
@@ -272,6 +282,9 @@ impl FoldColumn {
             FoldValues::Ints(numbers) => Ok(Column::of_ints(numbers)),
             FoldValues::UInts(numbers) => Ok(Column::of_uints(numbers)),
             FoldValues::Texts(texts) => Ok(Column::of_texts(texts_of(alloc, texts)?)),
+            FoldValues::NullableInts(states) => nullable_int_column(alloc, states.as_slice()),
+            FoldValues::NullableUInts(states) => nullable_uint_column(alloc, states.as_slice()),
+            FoldValues::NullableTexts(states) => nullable_text_column(alloc, states.as_slice()),
         }
     }
 }

@@ -39,7 +39,7 @@ pub(crate) fn are_sound(calls: &[StateCall]) -> bool
     ensures { IsTrue result → AreSound calls.now }
 {
     for i in 0..calls.len() {
-        if !can_fold(fold_of(calls[i].op), calls[i].kind.plain()) {
+        if !can_fold(fold_of(calls[i].op), calls[i].kind) {
             return false;
         }
     }

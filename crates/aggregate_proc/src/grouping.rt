@@ -110,12 +110,16 @@ fn same_types(types: &[ColumnType], others: &[ColumnType]) -> bool
     types == others
 }
 
-// A column of one default value.
+// A column of one default value: NULL where it may have NULL.
 fn default_column(alloc: Global, kind: ColumnType) -> Result<Column, Memory>
     ensures kind { IfOk result (λ c. column_type c ≡ kind) }
     ensures values { IfOk result (λ c. values c ≡ default_value kind ∷ []) }
 {
     let mut column = Column::new(alloc, kind);
+    if kind.is_nullable() {
+        column.push_null()?;
+        return Ok(column);
+    }
     match kind.plain() {
         PlainType::Int64 => column.push_int(0)?,
         PlainType::UInt64 => column.push_uint(0)?,

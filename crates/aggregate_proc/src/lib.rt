@@ -7,6 +7,7 @@
 //! - `group_table`: the groups so far. For each chunk the places of its rows' groups are found
 //!   first, and then each column takes the rows to these places in one loop.
 //! - `fold`: a column of the table, and what it makes of the values of a group.
+//! - `nullable_fold`: the same where values may be NULL.
 //! - `group_builder`: the columns for a spec.
 #![tactic(auto)]
 
@@ -14,6 +15,7 @@ mod fold;
 mod group_builder;
 mod group_table;
 mod grouping;
+mod nullable_fold;
 mod phase;
 
 pub use grouping::{

@@ -1,8 +1,8 @@
-use Rattle.aggregate_proc.proofs.Imports.{arith, common_steps, chosen, combined, wrapped}
+use Rattle.aggregate_proc.proofs.Imports.{arith, common_steps, chosen, combined, wrapped, wrapped_sum}
 use Rattle.aggregate_proc.proofs.fold.next_uint.Goals as goal
 
 pub returns-in-Add : goal.returns-in-Add
-unfolding combined wrapped
+unfolding combined wrapped wrapped_sum
 returns-in-Add c = grind (arith, c.ranges.number.fits)
 
 pub returns-in-Least : goal.returns-in-Least
