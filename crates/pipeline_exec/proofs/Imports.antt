@@ -6,7 +6,9 @@ pub use Rattle.exec_laws.specs.Prelude.{holds_node}
 pub use Rattle.growth_notes.specs.Rules.{AreFirst}
 pub use Rattle.node_births.proofs.ReserveLaws.{grower-unheld, held-once, node-once}
 pub use Rattle.node_ends.proofs.Lists.{there}
+pub use Rattle.node_workers.proofs.SentNotes.{noted_sent}
 pub use Rattle.std.proofs.Common.{IfNone, IfSome, ⊎_elim}
 pub use Rattle.std.proofs.lemmas.List.{map-set}
 pub use Rattle.std.proofs.lemmas.Simd.{map-map}
+pub use denote.Param.Send.{arg_send, param_send}
 unfoldable pub use Rattle.exec_laws.proofs.Imports.{box_at}

@@ -1,8 +1,8 @@
 -- The names from outside that this crate's proofs use, in one place.
 pub use Rattle.chunk_data.proofs.Laws.{same_plain-is}
-pub use Rattle.chunk_data.proofs.Places.{AreOnce-append, count_by-append, count_by-cons}
+pub use Rattle.chunk_data.proofs.Places.{count_by-append, count_by-cons, AreOnce-append}
+pub use Rattle.chunk_data.specs.Values.{is_text, plain_type, type_at}
 pub use Rattle.chunk_data.specs.Places.{AreOnce}
-pub use Rattle.chunk_data.specs.Values.{type_at}
 pub use Rattle.exec_laws.proofs.BirthLaws.{grows-lawfully}
 pub use Rattle.exec_laws.proofs.Growing.{grew-list}
 pub use Rattle.exec_laws.proofs.Imports.{few-inputs, few-outputs}
@@ -58,7 +58,8 @@ pub use Rattle.query_model.specs.Database.{IsListDeclared, IsListUsed, IsValidLi
 pub use Rattle.query_model.specs.Formulas.{cond_form, operand_form}
 pub use Rattle.query_model.specs.ListFiles.{is_path}
 pub use Rattle.query_model.specs.Names.{AreColumnsFrom, ArePicks, BothOrNone, Cond, Database, EachWith, Expr, Files, FromColumn, IsAnalysable, IsAnswer, IsChecked, IsCheckedJoin, IsItem, IsShape, IsTypedCall, IsTypedCond, IsTypedFilter, IsTypedQuery, IsTypedShape, IsValidPart, IsValidUsed, UsedPart, database, declared_table, enough, file_bytes, filtered_rows, flow, from_columns, from_types, group_types, groups, groups_or_default, groups_tested, holds, if_declared, if_grouped, if_ordered, if_plain, is_grouped, is_join_pair, item_calls, item_row, join_columns, join_tables, join_use, joined_rows, joined_table, kind_of, limited, list_sources_need, meant_type, numbered_parts, numbers, output_names, output_rows, pair_of, pairs_fit, part_rows, part_sources_need, parts_declared, parts_used, place_of, query_boxes, rows_joined, rows_tested, rows_where, selected_rows, shape_types, sort_key, source_rows, source_table, table_columns, table_need, types_of, use_of, used_table, used_tables, query_tree, selection}
-pub use Rattle.query_model.specs.Typing.{IsTypedArgument}
+pub use Rattle.query_model.specs.Refusals.{joins, same_known_type}
+pub use Rattle.query_model.specs.Typing.{AreComparable, IsTypedArgument, is_null_operand}
 pub use Rattle.query_model.specs.declared.checked.Checked.{Checked}
 pub use Rattle.query_model.specs.declared.checked.CheckedJoin.{CheckedJoin}
 pub use Rattle.query_model.specs.declared.checked.Grouping.{Grouping}

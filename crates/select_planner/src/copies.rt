@@ -25,6 +25,7 @@ pub(crate) fn copy_cond(alloc: Global, cond: &Cond) -> Result<Cond, Memory>
             boxed_cond(alloc, copy_cond(alloc, b)?)?,
         )),
         CondOf::Not(a) => Ok(CondOf::Not(boxed_cond(alloc, copy_cond(alloc, a)?)?)),
+        CondOf::IsNull(a) => copy_null_test(alloc, a),
     }
 }
 
@@ -43,6 +44,14 @@ fn copy_comparison(
     Ok(CondOf::Compare(op, left, right))
 }
 
+// IS NULL, apart from the recursion as well.
+#[inline(never)]
+fn copy_null_test(alloc: Global, operand: &Operand<u32>) -> Result<Cond, Memory>
+    ensures { IfOk result (λ copy. cond_form copy ≡ cond_form (condition.IsNull operand.now)) }
+{
+    Ok(CondOf::IsNull(copy_operand(alloc, operand)?))
+}
+
 fn copy_operand(alloc: Global, operand: &Operand<u32>) -> Result<Operand<u32>, Memory>
     ensures { IfOk result (λ copy. operand_form copy ≡ operand_form operand.now) }
 {
@@ -53,6 +62,7 @@ fn copy_operand(alloc: Global, operand: &Operand<u32>) -> Result<Operand<u32>, M
             let arg = copy_argument(alloc, &call.arg)?;
             Ok(Operand::Agg(AggCall { op: call.op, arg }))
         }
+        Operand::Null => Ok(Operand::Null),
     }
 }
 

@@ -1,6 +1,6 @@
 -- The columns of a table that a query names are those of the table that its plan reads, and its
 -- checked types are those of the rows that its items make.
-use Rattle.plan_laws.proofs.Imports.{Bool, IfSome, List, None, Option, Some, [], ap, arith, bytes_eq, cond, false, filter, flat_map, length, map, not, refl, slice_index_or, subst, suc, true, ℕ, ◌+◌, ◌<◌, ◌==◌, ◌∷◌, ◌≡◌, All, All-cons, All-head, All-nil, All-tail, AreColumnsFrom, AreKeyPairs, BothOrNone, Checked, CheckedJoin, ColumnDecl, ColumnRef, ColumnType, EachWith, Expr, FromColumn, IsAnalysable, IsChecked, IsCheckedJoin, IsKeyPair, IsOfKind, IsTypedQuery, Item, Join, NamePair, OrderKey, Query, Schema, SortKey, TableDecl, TableRef, TableUse, unrefused_is_accepted, append-nil, column_is_of_kind, from_columns, from_types, is_join_pair, join_spec, join_tables, length-map, list_all, map-append, means, meant_type, none_found, output_names, length-item_names, query_tree, selection, pair_of, place_of, refusal_of, same_plain-is, sort_key, source_types, table_columns, type_of, types_of, use_of, used_types, join_columns, pairs_fit, and_parts, shape_types, ArePicks, item_calls}
+use Rattle.plan_laws.proofs.Imports.{Bool, IfSome, List, None, Option, Some, [], ap, arith, bytes_eq, cond, false, filter, flat_map, length, map, not, refl, slice_index_or, subst, suc, true, ℕ, ◌+◌, ◌<◌, ◌==◌, ◌∷◌, ◌≡◌, All, All-cons, All-head, All-nil, All-tail, AreColumnsFrom, AreKeyPairs, BothOrNone, Checked, CheckedJoin, ColumnDecl, ColumnRef, ColumnType, EachWith, Expr, FromColumn, IsAnalysable, IsChecked, IsCheckedJoin, IsKeyPair, IsOfKind, IsTypedQuery, Item, Join, NamePair, OrderKey, Query, Schema, SortKey, TableDecl, TableRef, TableUse, unrefused_is_accepted, append-nil, column_is_of_kind, from_columns, from_types, is_join_pair, join_spec, join_tables, length-map, list_all, map-append, means, meant_type, none_found, output_names, length-item_names, query_tree, selection, pair_of, place_of, refusal_of, same_plain-is, sort_key, source_types, table_columns, type_of, types_of, use_of, used_types, join_columns, pairs_fit, and_parts, shape_types, ArePicks, item_calls, plain_type, sym, ◌∙◌, ◌||◌, joins, same_known_type}
 use Rattle.chunk_data.specs.declared.typed_value.ColumnType.TheVariants as column
 use Rattle.query_model.specs.declared.query.ExprOf.TheVariants as expr
 use Rattle.query_model.specs.declared.query.Refusal.TheVariants as refuse
@@ -61,9 +61,39 @@ unfolding type_of
 meant-at columns c t e = grind (arith, IsOfKind, column_is_of_kind c columns)
 
 -- a pair fits, whichever way it is written
+-- columns that join have places, and types that are one apart from Nullable
+columns-join : (left right : List FromColumn) (a b : ColumnRef) (s t : Option ColumnType)
+    → meant_type left a ≡ s → meant_type right b ≡ t → same_known_type s t ≡ true
+    → IsKeyPair (types_of left) (types_of right)
+    (record { left = place_of (means a) left; right = place_of (means b) right })
+columns-join left right a b (Some s) (Some t) d e h =
+    let l = meant-at left a s d in
+    let r = meant-at right b t e in (
+      l.0,
+      r.0,
+      ap plain_type l.1 ∙ same_plain-is (plain_type s) (plain_type t) h
+          ∙ sym (ap plain_type r.1),
+    )
+columns-join left right a b s t d e h = absurd (cc)
+
+-- a pair fits, whichever way it is written
 pair-is : (left right : List FromColumn) (p : NamePair) → is_join_pair left right p ≡ true
     → IsKeyPair (types_of left) (types_of right) (pair_of left right p)
-pair-is left right p h = search (arith, meant-at, same_plain-is)
+pair-is left right p h =
+    go (joins left right p.left p.right)
+    (columns-join left right p.left p.right (meant_type left p.left) (meant_type right p.right)
+    refl refl) h
+  where
+    go : (b : Bool) → (b ≡ true → IsKeyPair (types_of left) (types_of right)
+        (record { left = place_of (means p.left) left; right = place_of (means p.right) right }))
+        → (b || joins left right p.right p.left) ≡ true
+        → IsKeyPair (types_of left) (types_of right) (cond b
+        (record { left = place_of (means p.left) left; right = place_of (means p.right) right })
+        (record { left = place_of (means p.right) left; right = place_of (means p.left) right }))
+    go true f h = f refl
+    go false f h =
+        columns-join left right p.right p.left (meant_type left p.right) (meant_type right p.left)
+        refl refl h
 
 pairs-fit : (left right : List FromColumn) (pairs : List NamePair)
     → list_all (is_join_pair left right) pairs ≡ true
