@@ -5,7 +5,7 @@ use query_model::query::Refusal;
 use std::alloc::{AllocError, Global};
 use std::test::Fail;
 
-const TABLES: &str = "t ia tb;u ua;w ik uv ts;twice ia ta";
+const TABLES: &str = "t ia tb;u ua;w ik uv ts;twice ia ta;n Ij Uy Tx";
 
 // A refusal's word, with the name that it carries behind it.
 fn write_refusal(out: &mut String, refusal: &Refusal) -> Result<(), AllocError> {
@@ -76,7 +76,7 @@ fn analysis_text(alloc: Global, text: &str) -> Result<String, Fail> {
     Ok(out)
 }
 
-static NAMES: [&str; 21] = [
+static NAMES: [&str; 22] = [
     "SELECT a FROM x~UnknownTable x",
     "SELECT c FROM x~UnknownTable x",
     "SELECT t.a FROM t JOIN x ON t.a = x.a~UnknownTable x",
@@ -85,6 +85,7 @@ static NAMES: [&str; 21] = [
     "SELECT u . a FROM t~UnknownColumn u.a",
     "SELECT d + c FROM t~UnknownColumn d",
     "SELECT a FROM t WHERE c = a~UnknownColumn c",
+    "SELECT a FROM t WHERE c IS NOT NULL~UnknownColumn c",
     "SELECT c FROM t WHERE d = a~UnknownColumn c",
     "SELECT a FROM t GROUP BY c~UnknownColumn c",
     "SELECT sum(c) FROM t~UnknownColumn c",
@@ -105,7 +106,7 @@ fn names_mean_one_column(rt: HostRuntime) -> Result<(), Fail> {
     check_each(&rt, rt.alloc(), &NAMES, analysis_text)
 }
 
-static TYPES: [&str; 22] = [
+static TYPES: [&str; 33] = [
     "SELECT a + b FROM t~TypeMismatch",
     "SELECT 1 FROM t~TypeMismatch",
     "SELECT 1 * 2 FROM t~TypeMismatch",
@@ -128,6 +129,18 @@ static TYPES: [&str; 22] = [
     "SELECT a FROM t GROUP BY a HAVING a = 'x'~TypeMismatch",
     "SELECT a FROM t GROUP BY a HAVING sum(b) = 1~TypeMismatch",
     "SELECT a FROM t GROUP BY a HAVING max(b) = 1~TypeMismatch",
+    // Types are taken without Nullable, and NULL may stand at any side of a comparison.
+    "SELECT j + y FROM n~TypeMismatch",
+    "SELECT x + 1 FROM n~TypeMismatch",
+    "SELECT sum(x) FROM n~TypeMismatch",
+    "SELECT y + -1 FROM n~TypeMismatch",
+    "SELECT j FROM n WHERE x = 1~TypeMismatch",
+    "SELECT j FROM n WHERE x = NULL OR NULL < 1 OR NULL = NULL OR j = y~j |",
+    "SELECT j FROM n WHERE j IS NULL OR x IS NULL OR j + 1 IS NULL OR NULL IS NULL~j |",
+    "SELECT a FROM t WHERE a IS NULL AND b IS NOT NULL~a |",
+    "SELECT j FROM n WHERE j = 1 AND 1 IS NULL~TypeMismatch",
+    "SELECT j FROM n WHERE 'x' IS NOT NULL~TypeMismatch",
+    "SELECT count() FROM n HAVING count() IS NULL AND -1 IS NULL~TypeMismatch",
 ];
 
 #[test]
@@ -135,7 +148,30 @@ fn types_fit(rt: HostRuntime) -> Result<(), Fail> {
     check_each(&rt, rt.alloc(), &TYPES, analysis_text)
 }
 
-static PAIRS: [&str; 9] = [
+// The types of the items, in columns and as they are computed.
+fn types_text(alloc: Global, text: &str) -> Result<String, Fail> {
+    match analysed(alloc, TABLES, text)?.as_slice().first() {
+        Some(Ok(checked)) => Ok(format!(in alloc; "{:?}", checked.types.as_slice())?),
+        _ => Err("the query is refused".into()),
+    }
+}
+
+static RESULTS: [&str; 5] = [
+    "SELECT a, a * 2, b FROM t~[Int64, Int64, Text]",
+    "SELECT a - a, a * a FROM u~[Int64, UInt64]",
+    "SELECT j, 1 - j, y * y, y - 1, x FROM n~\
+     [NullInt64, NullInt64, NullUInt64, NullInt64, NullText]",
+    "SELECT a + j FROM t JOIN n ON a = j~[NullInt64]",
+    "SELECT y, count(), sum(j), min(x), max(y - 1), sum(y) FROM n GROUP BY y~\
+     [NullUInt64, UInt64, NullInt64, NullText, NullInt64, NullUInt64]",
+];
+
+#[test]
+fn results_have_types(rt: HostRuntime) -> Result<(), Fail> {
+    check_each(&rt, rt.alloc(), &RESULTS, types_text)
+}
+
+static PAIRS: [&str; 11] = [
     "SELECT b FROM t JOIN u ON t.a = u.a~BadJoinKey",
     "SELECT b FROM t JOIN w ON b = t.a~BadJoinKey",
     "SELECT b FROM t JOIN w ON t.a = a~BadJoinKey",
@@ -145,6 +181,8 @@ static PAIRS: [&str; 9] = [
     "SELECT v, a FROM w JOIN t ON b == s AND k = a~v a | 2=1 0=0",
     "SELECT * FROM u JOIN w ON v = u.a~a k v s | 0=1",
     "SELECT k FROM w JOIN numbers(3) ON number = v~k | 1=0",
+    "SELECT b, x FROM t JOIN n ON a = j AND x = b~b x | 0=0 1=2",
+    "SELECT b FROM t JOIN n ON a = y~BadJoinKey",
 ];
 
 #[test]
@@ -152,7 +190,7 @@ fn pairs_are_of_two_tables(rt: HostRuntime) -> Result<(), Fail> {
     check_each(&rt, rt.alloc(), &PAIRS, analysis_text)
 }
 
-static GROUPS: [&str; 14] = [
+static GROUPS: [&str; 15] = [
     "SELECT b FROM t GROUP BY a~NotGrouped b",
     "SELECT a, b, t.b FROM t GROUP BY a~NotGrouped b",
     "SELECT * FROM t GROUP BY a~NotGrouped *",
@@ -162,6 +200,7 @@ static GROUPS: [&str; 14] = [
     "SELECT a, count() FROM t~NotGrouped a",
     "SELECT count() FROM t HAVING a = 1 AND b = 'x'~NotGrouped a",
     "SELECT a FROM t GROUP BY a HAVING b = 'x'~NotGrouped b",
+    "SELECT j FROM n GROUP BY j HAVING j IS NULL OR x IS NULL~NotGrouped x",
     "SELECT count() FROM t~item_1 | keys picks 0 calls 1 lone",
     "SELECT t.a FROM t GROUP BY a~a | keys 0 picks 0 calls 0",
     "SELECT s, max(v) AS m, k FROM w GROUP BY k, w.s, s HAVING count() > 1 AND max(k) < k~\
@@ -202,7 +241,7 @@ fn width_text(alloc: Global, text: &str) -> Result<String, Fail> {
     Ok(format!(in alloc; "{wide}")?)
 }
 
-static WIDTHS: [&str; 12] = [
+static WIDTHS: [&str; 14] = [
     "SELECT |a, |63|a FROM t~false",
     "SELECT |a, |64|a FROM t~true",
     "SELECT count() FROM t GROUP BY |a, |63|a~false",
@@ -213,6 +252,8 @@ static WIDTHS: [&str; 12] = [
     "SELECT b FROM t JOIN w ON |a = k AND |64|a = k~true",
     "SELECT count() FROM t HAVING |count() > 1 AND |63|1 = 1~false",
     "SELECT count() FROM t HAVING |count() > 1 AND |64|1 = 1~true",
+    "SELECT count() FROM t HAVING |count() IS NULL AND |63|1 = 1~false",
+    "SELECT count() FROM t HAVING |count() IS NULL AND |64|1 = 1~true",
     "SELECT a FROM t WHERE |a > 1 AND |63|1 = 1~false",
     "SELECT a FROM t WHERE |a > 1 AND |64|1 = 1~false",
 ];

@@ -49,18 +49,29 @@ fn column_of_texts(alloc: Global, texts: &[&[u8]]) -> Result<Column, Memory>
     Ok(Column::of_texts(column))
 }
 
-// A chunk with a column of each type.
+// The numbers, and NULL where they aren't valid.
+fn column_with_nulls(alloc: Global, numbers: &[i64], valid: &[bool]) -> Result<Column, Memory> {
+    let column = Column::of_ints(Vec::from_slice(alloc, numbers)?);
+    let valid = Vec::from_slice(alloc, valid)?;
+    if valid.len() != column.len() {
+        return Err(Memory);
+    }
+    Ok(column.with_validity(Some(valid)))
+}
+
+// A chunk with a column of each type, and one that has NULL.
 fn places(alloc: Global) -> Result<Chunk, Memory> {
     let ints = Column::of_ints(Vec::from_slice(alloc, &[-5, 3, -5, 0])?);
     let uints = Column::of_uints(Vec::from_slice(alloc, &[7, 0, 1, u64::MAX])?);
     let texts = column_of_texts(alloc, &[b"b", b"ab", b"a", b""])?;
+    let nulls = column_with_nulls(alloc, &[9, 1, 9, -1], &[false, true, false, true])?;
     let rows = ints.len();
-    if uints.len() != rows || texts.len() != rows {
+    if uints.len() != rows || texts.len() != rows || nulls.len() != rows {
         return Err(Memory);
     }
     Chunk::of_columns(
         alloc,
-        List::from_vec(vec![in alloc; ints, uints, texts]?),
+        List::from_vec(vec![in alloc; ints, uints, texts, nulls]?),
         rows,
     )
 }
@@ -76,7 +87,7 @@ fn order_text(alloc: Global, text: &str) -> Result<String, Fail> {
     Ok(format!(in alloc; "{order:?}")?)
 }
 
-static ORDERS: [&str; 8] = [
+static ORDERS: [&str; 14] = [
     "0 1 0 +~Some(Less)",
     "0 1 0 -~Some(Greater)",
     "0 2 0 +~Some(Equal)",
@@ -85,6 +96,13 @@ static ORDERS: [&str; 8] = [
     "2 1 2 +~Some(Less)",
     "2 1 2 -~Some(Greater)",
     "3 2 2 +~Some(Less)",
+    // NULL comes last both ways.
+    "0 3 3 +~Some(Greater)",
+    "0 3 3 -~Some(Greater)",
+    "1 2 3 +~Some(Less)",
+    "1 2 3 -~Some(Less)",
+    "0 2 3 -~Some(Equal)",
+    "1 3 3 -~Some(Less)",
 ];
 
 #[test]
@@ -116,16 +134,18 @@ fn split_and_appended(alloc: Global, out: &mut String) -> Result<(), Fail> {
     add_rows(out, &front)
 }
 
-// A row of a number and a text.
+// A row of a number, a text and NULL.
 fn row(alloc: Global, number: i64, text: &[u8]) -> Result<List<Value>, Memory>
-    ensures { IfOk result (λ row. row ≡ Value.Int number ∷ Value.Text text.now ∷ []) }
+    ensures { IfOk result (λ row. row ≡ Value.Int number ∷ Value.Text text.now ∷ Value.Null ∷ []) }
 {
     let text = Bytes::from_slice(alloc, text)?;
-    Ok(List::from_vec(vec![in alloc; Value::Int(number), Value::Text(text)]?))
+    let values = vec![in alloc; Value::Int(number), Value::Text(text), Value::Null]?;
+    Ok(List::from_vec(values))
 }
 
 fn pushed(alloc: Global, out: &mut String) -> Result<(), Fail> {
-    let types = List::from_vec(vec![in alloc; ColumnType::Int64, ColumnType::Text]?);
+    let kinds = [ColumnType::Int64, ColumnType::Text, ColumnType::NullUInt64];
+    let types = List::from_vec(Vec::from_slice(alloc, &kinds)?);
     let mut chunk = Chunk::new(alloc, &types)?;
     chunk.push_row(row(alloc, 2, b"x")?)?;
     chunk.push_row(row(alloc, -1, b"")?)?;
@@ -167,11 +187,12 @@ fn changes_text(alloc: Global, text: &str) -> Result<String, Fail> {
 }
 
 static CHANGES: [&str; 5] = [
-    "gathered and kept~3,0,\"ab\"\n0,18446744073709551615,\"\"\n3,0,\"ab\"\n.\
-     3,0,\"ab\"\n-5,1,\"a\"\n.",
-    "split and appended~3,0,\"ab\"\n-5,1,\"a\"\n.-5,7,\"b\"\n3,0,\"ab\"\n.\
-     -5,7,\"b\"\n3,0,\"ab\"\n-5,1,\"a\"\n0,18446744073709551615,\"\"\n.",
-    "pushed~2,\"x\"\n-1,\"\"\n.",
+    "gathered and kept~3,0,\"ab\",1\n0,18446744073709551615,\"\",-1\n3,0,\"ab\",1\n.\
+     3,0,\"ab\",1\n-5,1,\"a\",\\N\n.",
+    "split and appended~3,0,\"ab\",1\n-5,1,\"a\",\\N\n.\
+     -5,7,\"b\",\\N\n3,0,\"ab\",1\n.\
+     -5,7,\"b\",\\N\n3,0,\"ab\",1\n-5,1,\"a\",\\N\n0,18446744073709551615,\"\",-1\n.",
+    "pushed~2,\"x\",\\N\n-1,\"\",\\N\n.",
     "without columns~\n\n.",
     "cut and beside~2\n3\n.2,5\n3,6\n.",
 ];
@@ -268,6 +289,34 @@ fn texts(alloc: Global) -> Result<String, Fail> {
     Ok(format!(in alloc; "{before} {} {:?}", texts.len(), texts.get(1))?)
 }
 
+fn grown_nulls(alloc: Global) -> Result<Column, Memory>
+    ensures { IfOk result (λ c. column_type c ≡ ColumnType.NullInt64) }
+{
+    let mut nulls = Column::new(alloc, ColumnType::NullInt64);
+    nulls.reserve(2)?;
+    nulls.push_int(4)?;
+    nulls.push_null()?;
+    nulls.push(Value::Null)?;
+    nulls.push_copy(&Value::Int(-4))?;
+    let copy = nulls.copy()?;
+    if copy.len() == 4 {
+        nulls.append_range(&copy, 1, 3)?;
+    }
+    nulls.remove_front(1);
+    Ok(nulls)
+}
+
+// Whether a column may have NULL, the type of its values, and which of them aren't NULL.
+fn valid(alloc: Global) -> Result<String, Fail> {
+    let column = grown_nulls(alloc)?;
+    let nullable = column.is_nullable();
+    Ok(format!(in alloc;
+        "{nullable} {:?} {:?}",
+        column.plain_type(),
+        column.validity()
+    )?)
+}
+
 // The lengths of truncated columns, and the types of empty ones.
 fn columns(alloc: Global) -> Result<String, Fail> {
     let mut columns = places(alloc)?.into_columns().into_vec();
@@ -290,18 +339,20 @@ fn growth_text(alloc: Global, text: &str) -> Result<String, Fail> {
         "signed" => signed(alloc),
         "unsigned" => unsigned(alloc),
         "texts" => texts(alloc),
+        "nulls" => valid(alloc),
         _ => columns(alloc),
     }
 }
 
-static GROWN: [&str; 7] = [
+static GROWN: [&str; 8] = [
     "list~[7, 8]",
     "bytes~[97, 98, 0, 99]",
     "keys~[SortKey { column: 1, descending: true }]",
     "signed~[4, -4, 4, -4] [4, -4, 4, -4]",
     "unsigned~[7]",
     "texts~2 [99, 100] 2 []",
-    "columns~3 3 3 Text Int64 ",
+    "nulls~true Int64 Some([false, false, true, false, false, true])",
+    "columns~3 3 3 3 Text Int64 ",
 ];
 
 #[test]

@@ -8,7 +8,7 @@ use std::test::Fail;
 // Words, which line breaks part, and what they mean: the query, the tables, the number of workers,
 // the rows of a chunk and the header, or a faulty command line. What is expected is told by the
 // description of the command, and not taken from the program.
-static CASES: [&str; 111] = [
+static CASES: [&str; 117] = [
     // Options in any order, each with its value behind it or behind `=`.
     "--query\nSELECT a FROM t\n--tables\nt=f.csv:a Int64,b String~\
      SELECT a FROM t|t=f.csv:a Int64,b String|4|8192|",
@@ -119,6 +119,13 @@ static CASES: [&str; 111] = [
     "--query\nq\n--tables\nt=p:a Int64,a String~usage",
     "--query\nq\n--tables\nt=p:a Int64, b Int64~usage",
     "--query\nq\n--tables=~usage",
+    "--query\nq\n--tables\nt=p:a Nullable(Int64),b Nullable(UInt64),c Nullable(String)~\
+     q|t=p:a Nullable(Int64),b Nullable(UInt64),c Nullable(String)|4|8192|",
+    "--query\nq\n--tables\nt=p:a Nullable(int64)~usage",
+    "--query\nq\n--tables\nt=p:a Nullable( Int64)~usage",
+    "--query\nq\n--tables\nt=p:a Nullable (Int64)~usage",
+    "--query\nq\n--tables\nt=p:a Nullable(Nullable(Int64))~usage",
+    "--query\nq\n--tables\nt=p:a Nullable(Int64~usage",
     // Worked commands: one row a chunk, several parts, a list file, a heading.
     "--query\nSELECT a FROM t WHERE a > 5\n--tables\nt=f.csv:a Int64\n--chunk\n1~\
      SELECT a FROM t WHERE a > 5|t=f.csv:a Int64|4|1|",
@@ -162,6 +169,9 @@ fn write_table(out: &mut String, table: &TableDecl) -> Result<(), AllocError> {
             ColumnType::Int64 => "Int64",
             ColumnType::UInt64 => "UInt64",
             ColumnType::Text => "String",
+            ColumnType::NullInt64 => "Nullable(Int64)",
+            ColumnType::NullUInt64 => "Nullable(UInt64)",
+            ColumnType::NullText => "Nullable(String)",
         };
         write!(
             out,

@@ -149,7 +149,7 @@ fn rows_text(alloc: Global, text: &str) -> Result<String, Fail> {
     Ok(from_utf8(&rows).unwrap_or("?").replace(alloc, "\"", "'")?)
 }
 
-static RECORDS: [&str; 23] = [
+static RECORDS: [&str; 28] = [
     "tt|~",
     "htt|~",
     "tt|\n\r\n\r~",
@@ -173,6 +173,12 @@ static RECORDS: [&str; 23] = [
     "htt|x~",
     "tt|a,b\nc\n~'a','b'\nbad 2 of 1\n",
     "tt|a,b\n\nc,d,\n~'a','b'\nbad 2 of 3\n",
+    // NULL, in columns that may have it alone.
+    "IT|\\N,\\N\n'\\N','\\N'\r\n-7,\\N~\\N,\\N\n\\N,\\N\n-7,\\N\n",
+    "TU|\\\\N,7\n\\n,\\N\n' \\N',8\n'',9~'\\\\N',7\n'\\n',\\N\n' \\N',8\n'',9\n",
+    "Ti|\\N,1\n\\N,\\N\n~\\N,1\nbad 2 2\n",
+    "tT|\\N,\\N\n~'\\N',\\N\n",
+    "IU|1,\\N\n2,\n~1,\\N\nbad 2 2\n",
 ];
 
 #[test]
@@ -278,13 +284,13 @@ fn draw(seed: &mut u64, limit: u64) -> u64
 }
 
 // Anything that a text may have.
-static PIECES: [&str; 17] = [
+static PIECES: [&str; 18] = [
     "\"", "\"\"", ",", "\n", "\r", "\r\n", "", " ", "-", "1", "x", "\u{feff}", "\u{0}", "18446744",
-    "07370955", "00000000", "abcdefgh",
+    "07370955", "00000000", "abcdefgh", "\\N",
 ];
 
 fn draw_piece(bytes: &mut Vec<u8>, seed: &mut u64) -> Result<(), Fail> {
-    Ok(bytes.extend_from_slice(PIECES[draw(seed, 17) as usize].as_bytes())?)
+    Ok(bytes.extend_from_slice(PIECES[draw(seed, 18) as usize].as_bytes())?)
 }
 
 // A field that spells a value of the type, most of the time.
@@ -293,7 +299,10 @@ fn draw_field(bytes: &mut Vec<u8>, seed: &mut u64, kind: ColumnType) -> Result<(
     let number = draw(seed, 1_000_000_000) >> draw(seed, 30);
     let field = match (kind, draw(seed, 12)) {
         (_, 0) => return draw_piece(bytes, seed),
-        (ColumnType::Int64, 1) => format!(in alloc; "-{number}")?,
+        (ColumnType::Int64 | ColumnType::NullInt64, 1) => format!(in alloc; "-{number}")?,
+        (ColumnType::NullInt64 | ColumnType::NullUInt64 | ColumnType::NullText, 2) => {
+            String::from_str(alloc, "\\N")?
+        }
         (ColumnType::Text, 1) => format!(in alloc; "\"a \"\"b\"\"\r\n,c{number}\"")?,
         (ColumnType::Text, 2) => format!(in alloc; "a text of more than 16 bytes{number}")?,
         (_, 3) => format!(in alloc; "\"{number}\"")?,
@@ -336,7 +345,7 @@ fn made_parts_are_read_alike(rt: HostRuntime) -> Result<(), Fail> {
     let mut seed = 20_261_127u64;
     let mut shown = 0u64;
     for i in 0..2000u64 {
-        let kinds = ["tiu", "ut", "i"][(i % 3) as usize];
+        let kinds = ["tiu", "ut", "i", "IUT", "Ti", "U"][(i / 5 % 6) as usize];
         let bytes = draw_part(alloc, &mut seed, kinds)?;
         let most = 1 + (i % 4) as usize;
         let rows = rows_of(alloc, &bytes, i % 5 == 0, most, kinds)?;

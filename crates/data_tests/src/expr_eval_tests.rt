@@ -1,4 +1,4 @@
-// Items and conditions over a row of an Int64, an UInt64 and a Text.
+// Items and conditions over a row of an Int64, an UInt64 and a Text, or of these types with NULL.
 use crate::literals::{analysed, check_each, chunk_of, halves};
 use chunk_data::{Chunk, ColumnType, PlainSlice};
 use expr_eval::{eval, is_typed, is_typed_cond, mask};
@@ -13,9 +13,13 @@ fn shown_values(alloc: Global, item: &Expr, chunk: &Chunk) -> Result<String, Fai
         ExprOf::Number(_) => Err("this is no item".into()),
         item if is_typed(item, chunk.types().as_slice()) => {
             let column = eval(alloc, item, chunk)?;
+            let kind = column.kind();
+            if column.len() > 0 && !column.is_valid(0) {
+                return Ok(format!(in alloc; "{kind:?} NULL")?);
+            }
             match column.plain() {
-                PlainSlice::Ints(numbers) => Ok(format!(in alloc; "Int64({numbers:?})")?),
-                PlainSlice::UInts(numbers) => Ok(format!(in alloc; "UInt64({numbers:?})")?),
+                PlainSlice::Ints(numbers) => Ok(format!(in alloc; "{kind:?}({numbers:?})")?),
+                PlainSlice::UInts(numbers) => Ok(format!(in alloc; "{kind:?}({numbers:?})")?),
                 PlainSlice::Texts(_) => Err("an item of texts is a column".into()),
             }
         }
@@ -42,14 +46,22 @@ fn shown(alloc: Global, query: &Checked, chunk: &Chunk) -> Result<String, Fail> 
     }
 }
 
-// A row, and a query over it: what its condition or else its first item gives.
-fn evaluation_text(alloc: Global, text: &str) -> Result<String, Fail> {
+// A row of such types, and a query over it: what its condition or else its first item gives.
+fn evaluated(alloc: Global, letters: &str, table: &str, text: &str) -> Result<String, Fail> {
     let (row, query) = halves(text, '|');
-    let chunk = chunk_of(alloc, "iut", row)?;
-    match analysed(alloc, "t ia ub tc", query)?.as_slice().first() {
+    let chunk = chunk_of(alloc, letters, row)?;
+    match analysed(alloc, table, query)?.as_slice().first() {
         Some(Ok(query)) => shown(alloc, query, &chunk),
         _ => Err("the query is refused".into()),
     }
+}
+
+fn evaluation_text(alloc: Global, text: &str) -> Result<String, Fail> {
+    evaluated(alloc, "iut", "t ia ub tc", text)
+}
+
+fn null_evaluation_text(alloc: Global, text: &str) -> Result<String, Fail> {
+    evaluated(alloc, "IUT", "t Ia Ub Tc", text)
 }
 
 static ITEMS: [&str; 8] = [
@@ -112,6 +124,49 @@ static COMBINATIONS: [&str; 12] = [
 #[test]
 fn conditions_are_combined(rt: HostRuntime) -> Result<(), Fail> {
     check_each(&rt, rt.alloc(), &COMBINATIONS, evaluation_text)
+}
+
+static NULLS: [&str; 32] = [
+    "\\N,0,|SELECT a + 1 FROM t~NullInt64 NULL",
+    "1,\\N,|SELECT 1 - b FROM t~NullInt64 NULL",
+    "1,18446744073709551615,|SELECT b * b + 1 FROM t~NullUInt64([2])",
+    "1,\\N,|SELECT a - 2 FROM t~NullInt64([-1])",
+    // A comparison with NULL is NULL, and so is NOT of it.
+    "\\N,0,|SELECT a FROM t WHERE a = 0~[false]",
+    "\\N,0,|SELECT a FROM t WHERE NOT a = 0~[false]",
+    "\\N,0,|SELECT a FROM t WHERE a != 1~[false]",
+    "\\N,0,|SELECT a FROM t WHERE b <= a~[false]",
+    "\\N,0,|SELECT a FROM t WHERE NOT b < a + 1~[false]",
+    "0,\\N,|SELECT a FROM t WHERE 0 = b~[false]",
+    "\\N,\\N,|SELECT a FROM t WHERE a = a~[false]",
+    "0,0,\\N|SELECT a FROM t WHERE c = ''~[false]",
+    "0,0,\\N|SELECT a FROM t WHERE NOT 'x' < c~[false]",
+    "0,0,|SELECT a FROM t WHERE a = b AND c = ''~[true]",
+    "0,0,|SELECT a FROM t WHERE a = NULL~[false]",
+    "0,0,|SELECT a FROM t WHERE NOT NULL = NULL~[false]",
+    "0,0,|SELECT a FROM t WHERE NOT c > NULL~[false]",
+    // AND, OR and NOT of NULL, true and false.
+    "\\N,1,|SELECT a FROM t WHERE a = 1 AND b = 1~[false]",
+    "\\N,1,|SELECT a FROM t WHERE NOT (b = 1 AND a = 1)~[false]",
+    "\\N,0,|SELECT a FROM t WHERE NOT (a = 1 AND b = 1)~[true]",
+    "\\N,1,|SELECT a FROM t WHERE a = 1 OR b = 1~[true]",
+    "\\N,0,|SELECT a FROM t WHERE NOT (a = 1 OR b = 1)~[false]",
+    "\\N,0,|SELECT a FROM t WHERE NOT (b = 1 AND NOT a = 1)~[true]",
+    "\\N,\\N,|SELECT a FROM t WHERE NOT (a = 1 AND b = 1) OR a = b~[false]",
+    // IS NULL is true or false.
+    "\\N,0,|SELECT a FROM t WHERE a IS NULL~[true]",
+    "\\N,0,|SELECT a FROM t WHERE a IS NOT NULL~[false]",
+    "0,0,|SELECT a FROM t WHERE a IS NULL~[false]",
+    "0,0,|SELECT a FROM t WHERE NOT c IS NULL~[true]",
+    "0,0,\\N|SELECT a FROM t WHERE NOT c IS NULL~[false]",
+    "0,\\N,|SELECT a FROM t WHERE 1 - b IS NULL~[true]",
+    "0,0,|SELECT a FROM t WHERE a + 1 IS NOT NULL~[true]",
+    "0,0,|SELECT a FROM t WHERE NOT NULL IS NOT NULL~[true]",
+];
+
+#[test]
+fn nulls_are_computed(rt: HostRuntime) -> Result<(), Fail> {
+    check_each(&rt, rt.alloc(), &NULLS, null_evaluation_text)
 }
 
 // A column behind a `c`, or a number.

@@ -54,11 +54,14 @@ fn type_of(letter: u8) -> ColumnType {
     match letter {
         b'i' => ColumnType::Int64,
         b'u' => ColumnType::UInt64,
+        b'I' => ColumnType::NullInt64,
+        b'U' => ColumnType::NullUInt64,
+        b'T' => ColumnType::NullText,
         _ => ColumnType::Text,
     }
 }
 
-/// The types that the letters `i`, `u` and `t` stand for.
+/// The types that the letters `i`, `u` and `t` stand for, and `I`, `U` and `T` for those with NULL.
 pub(crate) fn types_of(alloc: Global, letters: &str) -> Result<List<ColumnType>, Fail> {
     let mut types = Vec::new(alloc);
     for letter in letters.as_bytes() {

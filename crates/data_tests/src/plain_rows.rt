@@ -5,12 +5,16 @@ ghost use Rattle.query_model.specs.Names.{spelled_value, spelled_row, bad_column
 use chunk_data::{Bytes, ColumnType, List, Memory, PlainType, Value};
 use query_model::numerals::{spelled_int, spelled_uint};
 use query_model::places::BadField;
+use query_model::plain::NULL_TEXT;
 use std::alloc::Global;
 
 /// The value that a field spells, if it spells one.
 fn value_spelled(alloc: Global, kind: ColumnType, field: &[u8]) -> Result<Option<Value>, Memory>
     ensures { IfOk result (λ v. v ≡ spelled_value kind field.now) }
 {
+    if kind.is_nullable() && field == NULL_TEXT {
+        return Ok(Some(Value::Null));
+    }
     match kind.plain() {
         PlainType::Int64 => match spelled_int(field) {
             Some(number) => Ok(Some(Value::Int(number))),
@@ -28,6 +32,9 @@ fn value_spelled(alloc: Global, kind: ColumnType, field: &[u8]) -> Result<Option
 fn spells(kind: ColumnType, field: &[u8]) -> bool
     ensures { result ≡ is_some (spelled_value kind field.now) }
 {
+    if kind.is_nullable() && field == NULL_TEXT {
+        return true;
+    }
     match kind.plain() {
         PlainType::Int64 => spelled_int(field).is_some(),
         PlainType::UInt64 => spelled_uint(field).is_some(),

@@ -78,11 +78,17 @@ fn record_text(alloc: Global, text: &str) -> Result<String, Fail> {
     )
 }
 
-static RECORDS: [&str; 3] = [
+static RECORDS: [&str; 8] = [
     "iut|-007|18446744073709551615|say \"hi\",\nbye~\
      -7,18446744073709551615,\"say \"\"hi\"\",\nbye\"\n",
     "iut|1|z|z~Column(2)",
     "i|1|z|z~Fields(3)",
+    // NULL, in columns that may have it alone.
+    "IUT|\\N|\\N|\\N~\\N,\\N,\\N\n",
+    "IUT|-7|7|\\n~-7,7,\"\\n\"\n",
+    "it|7|\\N~7,\"\\N\"\n",
+    "Ii|\\N|\\N~Column(2)",
+    "TI||~Column(2)",
 ];
 
 #[test]

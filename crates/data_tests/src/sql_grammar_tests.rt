@@ -12,7 +12,7 @@ fn name_text(alloc: Global, text: &str) -> Result<String, Fail> {
     Ok(format!(in alloc; "{} {keyword:?} {aggregate:?}", is_name(word))?)
 }
 
-static WORDS: [&str; 17] = [
+static WORDS: [&str; 19] = [
     "a~true None None",
     "_~true None None",
     "Z9_~true None None",
@@ -22,6 +22,8 @@ static WORDS: [&str; 17] = [
     "distinct~false Some(Distinct) None",
     "DISTINCT~false Some(Distinct) None",
     "By~false Some(By) None",
+    "iS~false Some(Is) None",
+    "null~false Some(Null) None",
     "distinc~true None None",
     "selects~true None None",
     "numbers~true None None",

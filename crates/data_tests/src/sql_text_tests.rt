@@ -45,6 +45,7 @@ fn write_operand(out: &mut String, operand: &Operand<ColumnRef>) -> Result<(), A
         Operand::Plain(expr) => write_expr(out, expr),
         Operand::Text(text) => write!(out, "<{}>", utf8(text)),
         Operand::Agg(call) => write_call(out, call),
+        Operand::Null => out.push_str("NULL"),
     }
 }
 
@@ -75,6 +76,10 @@ fn write_condition(out: &mut String, condition: &CondOf<ColumnRef>) -> Result<()
         CondOf::Not(inner) => {
             out.push_str("NOT ")?;
             write_condition(out, inner)
+        }
+        CondOf::IsNull(operand) => {
+            write_operand(out, operand)?;
+            out.push_str(" IS NULL")
         }
     }
 }
@@ -169,7 +174,7 @@ fn query_text(alloc: Global, text: &str) -> Result<String, Fail> {
     Ok(out)
 }
 
-static TEXTS: [&str; 139] = [
+static TEXTS: [&str; 165] = [
     // Items.
     "SELECT a FROM t LIMIT 1~a of t first 1 behind 0",
     "SELECT a FROM numbers(3)~a of numbers 3",
@@ -239,6 +244,37 @@ static TEXTS: [&str; 139] = [
     "SELECT a FROM t WHERE a = '\u{e9}' AND b = 'FROM'~\
      a of t where {[a Eq <\u{e9}>] AND [b Eq <FROM>]}",
     "SELECT a FROM t WHERE~Syntax",
+    // NULL.
+    "SELECT a FROM t WHERE a IS NULL~a of t where a IS NULL",
+    "SELECT a FROM t WHERE a iS nOt NuLl~a of t where NOT a IS NULL",
+    "SELECT a FROM t WHERE NOT a + 1 IS NULL AND 'x' IS NULL~\
+     a of t where {NOT (a Add 1) IS NULL AND <x> IS NULL}",
+    "SELECT a FROM t WHERE NOT NOT a IS NOT NULL~a of t where NOT NOT NOT a IS NULL",
+    "SELECT a FROM t WHERE (a) IS NULL OR (t.a IS NULL)~\
+     a of t where {a IS NULL OR t.a IS NULL}",
+    "SELECT a FROM t WHERE NULL = a OR a < NULL OR NULL IS NULL~\
+     a of t where {{[NULL Eq a] OR [a Lt NULL]} OR NULL IS NULL}",
+    "SELECT a FROM t HAVING count() IS NULL AND (a IS NOT NULL OR NULL <> 1)~\
+     a of t having {Count() IS NULL AND {NOT a IS NULL OR [NULL Ne 1]}}",
+    "SELECT a FROM t HAVING a + 1 IS NULL~Syntax",
+    "SELECT a FROM t WHERE a = b IS NULL~Syntax",
+    "SELECT a FROM t WHERE (a = b) IS NULL~Syntax",
+    "SELECT a FROM t WHERE a IS NULL IS NULL~Syntax",
+    "SELECT a FROM t WHERE a IS NULL = b~Syntax",
+    "SELECT a FROM t WHERE a IS NULL + 1~Syntax",
+    "SELECT a FROM t WHERE NOT a IS~Syntax",
+    "SELECT a FROM t WHERE a IS NOT~Syntax",
+    "SELECT a FROM t WHERE a IS NOT NOT NULL~Syntax",
+    "SELECT a FROM t WHERE a IS NOT (NULL)~Syntax",
+    "SELECT a FROM t WHERE a IS b~Syntax",
+    "SELECT a FROM t WHERE IS NULL~Syntax",
+    "SELECT a FROM t WHERE a NOT NULL~Syntax",
+    "SELECT a FROM t WHERE a = NOT NULL~Syntax",
+    "SELECT a FROM t WHERE (NULL) = a~Syntax",
+    "SELECT a FROM t WHERE a + NULL = 1~Syntax",
+    "SELECT NULL FROM t~Syntax",
+    "SELECT sum(NULL) FROM t~Syntax",
+    "SELECT a AS null FROM t~Syntax",
     "SELECT a FROM t WHERE a = 1 ORDER BY a, b desc LIMIT 3~\
      a of t where [a Eq 1] by a by b down first 3 behind 0",
     // No queries.
@@ -337,7 +373,7 @@ fn refusal_text(alloc: Global, text: &str) -> Result<String, Fail> {
     Ok(format!(in alloc; "{refusal:?}")?)
 }
 
-static LIMITS: [&str; 7] = [
+static LIMITS: [&str; 9] = [
     "SELECT a FROM t| |65521|~None",
     "SELECT a FROM t| |65522|~Some(TooLong)",
     "SELECT a|+a|1000| FROM t~None",
@@ -345,6 +381,8 @@ static LIMITS: [&str; 7] = [
     "SELECT |(|1000|a FROM t~Some(Syntax)",
     "SELECT a FROM t WHERE| NOT|1000| a = 1~None",
     "SELECT a FROM t WHERE |a = (|1000|~Some(Syntax)",
+    "SELECT a FROM t WHERE |a IS NOT NULL AND |500|a IS NULL~None",
+    "SELECT a FROM t WHERE |a IS NOT NULL AND |500|NOT a IS NULL~Some(TooComplex)",
 ];
 
 #[test]

@@ -19,12 +19,13 @@ pub(crate) fn halves(text: &str, sign: char) -> (&str, &str) {
     text.split_once(sign).unwrap_or((text, ""))
 }
 
-/// The types that the letters stand for: `i` for Int64, `t` for Text.
+/// The types that the letters stand for: `i` for Int64, `n` for Nullable(Int64), `t` for Text.
 pub(crate) fn types_of(alloc: Global, letters: &str) -> Result<List<ColumnType>, Fail> {
     let mut types = Vec::new(alloc);
     for letter in letters.as_bytes() {
         types.push(match *letter {
             b'i' => ColumnType::Int64,
+            b'n' => ColumnType::NullInt64,
             _ => ColumnType::Text,
         })?;
     }
@@ -67,6 +68,7 @@ fn show_value(text: &mut String, value: &Value) -> Result<(), AllocError> {
         Value::Int(number) => write!(text, "{number}"),
         Value::UInt(number) => write!(text, "{number}"),
         Value::Text(bytes) => show_bytes(text, bytes),
+        Value::Null => text.push_str("\\N"),
     }
 }
 

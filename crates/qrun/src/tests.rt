@@ -16,6 +16,7 @@ mod devices;
 mod groups;
 mod joins;
 mod lists;
+mod nulls;
 mod orders;
 mod plans;
 mod queries;
