@@ -1,6 +1,7 @@
 #!/usr/bin/env bash
 # Times `quantity * price` and `price > 50 AND quantity < 3` over chunks of Int64 columns, beside
-# plain loops over slices that make the same vectors, and prints a table. It is no test. The program
+# plain loops over slices that make the same vectors, and over Nullable columns of which each tenth
+# value is NULL, beside the plain columns, and prints a table. It is no test. The program
 # (expressions.rattle) is proved and built in a temporary copy of the crates.
 set -euo pipefail
 here=$(cd "$(dirname "${BASH_SOURCE[0]}")" && pwd)
@@ -32,12 +33,12 @@ seconds() {
 }
 
 for rows in 8192 65536; do
-    for pair in 'eval product' 'mask condition'; do
+    for pair in 'eval product' 'mask condition' 'null_eval eval' 'null_mask mask'; do
         read -r call plain <<<"$pair"
-        awk -v call="$call" -v rows="$rows" \
+        awk -v call="$call" -v rows="$rows" -v plain="$plain" \
             -v a="$(seconds "$call" "$rows")" -v b="$(seconds "$plain" "$rows")" 'BEGIN {
-            printf "%-4s over %5d rows: %5.2f G rows/s, " \
-                "plain loop %5.2f G rows/s, %.2f times its time\n", call, rows, 1 / a, 1 / b, a / b
+            printf "%-9s over %5d rows: %5.2f G rows/s, %-9s %5.2f G rows/s, " \
+                "%.2f times its time\n", call, rows, 1 / a, plain, 1 / b, a / b
         }'
     done
 done

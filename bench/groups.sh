@@ -1,8 +1,8 @@
 #!/usr/bin/env bash
 # Times groups over five million rows: by 1,000 numbers, by a million numbers, by a text of few and
-# of 50,000 values, by two columns and without keys, in one lane and in four, beside the rows alone,
-# and beside sqlite3 where it is installed. It is no test. The data is made once, in bench/data/,
-# which isn't committed.
+# of 50,000 values, by two columns and without keys, in one lane and in four, beside the same over
+# Nullable columns and the rows alone, and beside sqlite3 where it is installed. It is no test. The
+# data is made once, in bench/data/, which isn't committed.
 set -euo pipefail
 here=$(cd "$(dirname "${BASH_SOURCE[0]}")" && pwd)
 rows=${ROWS:-5000000}
@@ -18,12 +18,14 @@ mkdir -p "$data"
 
 . "$here/measure.sh"
 tables="t=$file:k Int64,m Int64,s String,n String,v Int64"
+nullable=$(sed -E 's/(Int64|String)/Nullable(\1)/g' <<<"$tables")
 for keys in k m s n 'k, s' ''; do
     query="SELECT ${keys:+$keys, }count(), sum(v), max(v) FROM t ${keys:+GROUP BY $keys}"
     for lanes in 1 4; do
         measure "${keys:-no keys}, $lanes" "$here/../qrun" --threads "$lanes" --query "$query" \
             --tables "$tables"
     done
+    measure "${keys:-no keys}, Nullable" "$here/../qrun" --query "$query" --tables "$nullable"
     if command -v sqlite3 >/dev/null; then
         measure "sqlite3 ${keys:-no keys}" sqlite3 -csv :memory: \
             'CREATE TABLE t(k INTEGER, m INTEGER, s TEXT, n TEXT, v INTEGER)' \

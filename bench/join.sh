@@ -1,8 +1,9 @@
 #!/usr/bin/env bash
 # Times joins of five million rows with 1,000 and 100,000 rows: with one match a row, with three,
-# and with none, beside reading alone, in one lane and in four, and beside sqlite3 where it is
-# installed. Then a join of 3,000 by 3,000 equal keys, nine million rows, with its memory. It is no
-# test. The data is made once, in bench/data/, which isn't committed.
+# and with none, beside the same over Nullable columns and reading alone, in one lane and in four,
+# and beside sqlite3 where it is installed. Then a join of 3,000 by 3,000 equal keys, nine million
+# rows, with its memory. It is no test. The data is made once, in bench/data/, which isn't
+# committed.
 set -euo pipefail
 here=$(cd "$(dirname "${BASH_SOURCE[0]}")" && pwd)
 rows=${ROWS:-5000000}
@@ -40,6 +41,8 @@ for keys in 1000 100000; do
             measure "$keys keys, $matches a row, $lanes" "$here/../qrun" --threads "$lanes" \
                 --query "$query" --tables "$tables"
         done
+        measure "$keys keys, $matches a row, Nullable" "$here/../qrun" --query "$query" \
+            --tables "$(sed 's/Int64/Nullable(&)/g' <<<"$tables")"
         if command -v sqlite3 >/dev/null; then
             measure "sqlite3 $keys keys, $matches" sqlite3 -csv :memory: \
                 'CREATE TABLE l(k INTEGER, m INTEGER, a INTEGER)' \

@@ -1,9 +1,9 @@
 #!/usr/bin/env bash
-# Times sixteen queries over five million rows, and five over four files, beside ClickHouse and
-# sqlite3 where they are installed, and prints a table: seconds, the fastest of RUNS runs of each
-# (3 if left out; sqlite3 once), on one thread and on four. It is no test. ClickHouse runs as a
-# server of its own, which reads the same files by `file()`; sqlite3 imports and selects. The data
-# is made once, in bench/data/, which isn't committed.
+# Times sixteen queries over five million rows, six of them over Nullable columns too, and five over
+# four files, beside ClickHouse and sqlite3 where they are installed, and prints a table: seconds,
+# the fastest of RUNS runs of each (3 if left out; sqlite3 once), on one thread and on four. It is
+# no test. ClickHouse runs as a server of its own, which reads the same files by `file()`; sqlite3
+# imports and selects. The data is made once, in bench/data/, which isn't committed.
 set -euo pipefail
 here=$(cd "$(dirname "${BASH_SOURCE[0]}")" && pwd)
 rows=${ROWS:-5000000}
@@ -107,6 +107,15 @@ for matches in 1 3; do
     tables[four_join$matches]="t=$parts:$wide_columns;r=$right:$right_columns"
     theirs[four_join$matches]="${theirs[four]} $other"
 done
+# The same files in columns that may have NULL, though no field is one.
+nullable() {
+    from[null_$1]=${from[$1]}
+    tables[null_$1]=$(sed -E 's/ (Int64|String)/ Nullable(\1)/g' <<<"${tables[$1]}")
+    theirs[null_$1]=$(sed -E 's/ (Int64|String)/ Nullable(\1)/g' <<<"${theirs[$1]}")
+}
+for name in wide left join1; do
+    nullable "$name"
+done
 from[numbers]='numbers(100000000)'
 tables[numbers]=${tables[left]}
 theirs[numbers]='(SELECT number FROM system.numbers_mt LIMIT 100000000)'
@@ -185,6 +194,12 @@ line 'JOIN, three matches a row' 'count(), sum(b)' join3
 line 'LIMIT 5' 'k, n' wide 'LIMIT 5'
 line 'numbers(100000000)' 'count(), sum(number), max(number)' numbers
 line 'count() alone' 'count()' wide
+line 'Nullable: a filter' 'k, w' null_wide 'WHERE v > 400'
+line 'Nullable: arithmetic, all rows out' 'k + v * 2 AS x, w - m AS y' null_wide
+line 'Nullable: sum, min and max' 'sum(w), min(v), max(m)' null_wide
+line 'Nullable: groups of 1,000 numbers' "k, $calls" null_wide 'GROUP BY k'
+line 'Nullable: ORDER BY two numbers' 'k, m, a' null_left 'ORDER BY m, a'
+line 'Nullable: JOIN, one match a row' 'count(), sum(b)' null_join1
 line 'four files: a filter' 'k, w' four 'WHERE v > 400'
 line 'four files: sum, min and max' 'sum(w), min(v), max(m)' four
 line 'four files: groups of a million' "m, $calls" four 'GROUP BY m'
